@@ -1,0 +1,8 @@
+//! The arithmetic of instructions, on 64-bit numbers.
+#![tactic(auto)]
+
+mod arithmetic;
+mod op;
+
+pub use arithmetic::alu;
+pub use op::AluOp;

@@ -1,0 +1,4 @@
+pub mod Arch
+pub mod Fields
+pub mod Rows
+pub mod Meanings

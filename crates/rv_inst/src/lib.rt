@@ -1,0 +1,14 @@
+//! Instructions: their words, what they want, and what they mean.
+#![tactic(auto)]
+
+mod arch;
+mod decoding;
+mod inst;
+mod laws;
+mod want;
+
+pub use arch::Arch;
+pub use decoding::decode;
+pub use inst::Inst;
+pub use laws::words_are_rows;
+pub use want::Want;

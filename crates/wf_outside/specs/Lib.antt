@@ -1,0 +1,7 @@
+pub mod Pages
+pub mod Images
+pub mod Files
+pub mod Puts
+pub mod MemFiles
+pub mod StatusText
+pub mod Taking

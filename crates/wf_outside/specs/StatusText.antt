@@ -1,0 +1,38 @@
+-- The exit status of a status, and its line.
+use Rattle.std.specs.Prelude.{◌++◌, ℕ, List, [], false, codes}
+use Rattle.std.specs.Fmt.{decimal, digits}
+use Rattle.wf_outside.specs.declared.status.Status.{Status}
+use Rattle.wf_outside.specs.declared.status.Status.TheVariants.{Done, Words, Shelf, Sink, Memory, Limit, Unbuilt}
+use Rattle.wf_outside.specs.declared.status.LimitKind.{LimitKind}
+use Rattle.wf_outside.specs.declared.status.LimitKind.TheVariants.{File}
+use Rattle.wf_outside.specs.declared.status.Unbuilt.{Unbuilt as UnbuiltPart}
+use Rattle.wf_outside.specs.declared.status.Unbuilt.TheVariants.{Image, Script, Journal, Step}
+
+-- the exit status
+abbrev pub code_of : Status → ℕ
+code_of Done = 0
+code_of Words = 1
+code_of Shelf = 5
+code_of Sink = 6
+code_of Memory = 7
+code_of (Limit what number most) = 8
+code_of (Unbuilt what) = 10
+
+abbrev pub limit_text : LimitKind → List ℕ
+limit_text File = codes "file"
+
+abbrev pub unbuilt_text : UnbuiltPart → List ℕ
+unbuilt_text Image = codes "image"
+unbuilt_text (Script line) = codes "script line " ++ decimal line
+unbuilt_text Journal = codes "journal"
+unbuilt_text (Step pc) = codes "step " ++ digits 16 false pc
+
+-- the line, without its newline; none for a run that was done
+abbrev pub line_of : Status → List ℕ
+line_of Done = []
+line_of Words = codes "wfpatch: words"
+line_of Shelf = codes "wfpatch: shelf"
+line_of Sink = codes "wfpatch: sink"
+line_of Memory = codes "wfpatch: memory"
+line_of (Limit what number most) = codes "wfpatch: limit " ++ limit_text what ++ codes " " ++ decimal number ++ codes " of " ++ decimal most
+line_of (Unbuilt what) = codes "wfpatch: unbuilt " ++ unbuilt_text what

@@ -1,0 +1,21 @@
+//! What the programs take from outside and give to it: files, output and statuses, and the plain
+//! types that every layer names.
+#![tactic(auto)]
+
+mod image;
+mod memory;
+mod refusal;
+mod shelf;
+mod sink;
+mod status;
+#[cfg(test)]
+mod tests;
+mod text;
+
+pub use image::{DataPage, Delta, Image, Jump, Limits, Name, Page};
+pub use memory::Memory;
+pub use refusal::Refusal;
+pub use shelf::{FsShelf, MemShelf, Shelf, ShelfFault};
+pub use sink::{MemSink, Sink, SinkFault, StdSink};
+pub use status::{LimitKind, Status, Unbuilt};
+pub use text::Text;

@@ -1,0 +1,129 @@
+//! How a run of the program ended.
+ghost use Rattle.std.specs.Prelude.{◌≡◌, IfOk};
+ghost use Rattle.wf_outside.specs.StatusText.{code_of, line_of};
+
+use crate::{Memory, Text};
+use std::alloc::Global;
+use std::fmt;
+
+/// What has a limit.
+#[derive(Clone, Copy, Debug, PartialEq, Eq)]
+pub enum LimitKind {
+    /// The bytes of a file.
+    File,
+}
+
+/// What is not built yet.
+#[derive(Clone, Copy, Debug, PartialEq, Eq)]
+pub enum Unbuilt {
+    /// An image that is not plain.
+    Image,
+    /// A script that is not plain, from this line on.
+    Script { line: u64 },
+    /// A journal to be checked.
+    Journal,
+    /// The instruction at this address, or what it asks for.
+    Step { pc: u64 },
+}
+
+/// How a run ended.
+#[derive(Clone, Copy, Debug, PartialEq, Eq)]
+pub enum Status {
+    /// The whole report was put.
+    Done,
+    /// No command has these words.
+    Words,
+    /// A file could not be read.
+    Shelf,
+    /// The output could not be put.
+    Sink,
+    /// Memory ran out.
+    Memory,
+    /// This number passes what is allowed.
+    Limit {
+        what: LimitKind,
+        number: u64,
+        most: u64,
+    },
+    /// The run needs what is not built yet.
+    Unbuilt {
+        what: Unbuilt,
+    },
+}
+
+impl Status {
+    /// The exit status: 0 for `Done`, 1 for `Words`, 5 for `Shelf`, 6 for `Sink`, 7 for `Memory`, 8
+    /// for `Limit`, 10 for `Unbuilt`.
+    pub fn code(&self) -> u8
+        ensures { result ≡ code_of self.now }
+    {
+        match self {
+            Status::Done => 0,
+            Status::Words => 1,
+            Status::Shelf => 5,
+            Status::Sink => 6,
+            Status::Memory => 7,
+            Status::Limit { .. } => 8,
+            Status::Unbuilt { .. } => 10,
+        }
+    }
+
+    /// The line that says how the run ended, without its newline; empty for `Done`. Numbers are
+    /// decimal, addresses lower-case hexadecimal.
+    pub fn line(&self, alloc: Global) -> Result<Text, Memory>
+        ensures { IfOk result (λ text. text ≡ line_of self.now) }
+    {
+        let line = format!(in alloc; "{self}")?;
+        Ok(Text::from(line.into_bytes()))
+    }
+}
+
+impl fmt::Display for LimitKind {
+    ghost use Rattle.std.specs.Prelude.{Some};
+    ghost use Rattle.wf_outside.specs.StatusText.{limit_text};
+
+    ghost output = { λ what. Some (limit_text what) };
+
+    fn fmt<W: fmt::Write>(&self, f: &mut fmt::Formatter<W>) -> fmt::Result {
+        match self {
+            LimitKind::File => write!(f, "file"),
+        }
+    }
+}
+
+impl fmt::Display for Unbuilt {
+    ghost use Rattle.std.specs.Prelude.{Some};
+    ghost use Rattle.wf_outside.specs.StatusText.{unbuilt_text};
+
+    ghost output = { λ what. Some (unbuilt_text what) };
+
+    fn fmt<W: fmt::Write>(&self, f: &mut fmt::Formatter<W>) -> fmt::Result {
+        match *self {
+            Unbuilt::Image => write!(f, "image"),
+            Unbuilt::Script { line } => write!(f, "script line {line}"),
+            Unbuilt::Journal => write!(f, "journal"),
+            Unbuilt::Step { pc } => write!(f, "step {pc:x}"),
+        }
+    }
+}
+
+impl fmt::Display for Status {
+    ghost use Rattle.std.specs.Prelude.{Some};
+    ghost use Rattle.wf_outside.specs.StatusText.{line_of};
+
+    ghost output = { λ status. Some (line_of status) };
+
+    fn fmt<W: fmt::Write>(&self, f: &mut fmt::Formatter<W>) -> fmt::Result {
+        match *self {
+            Status::Done => Ok(()),
+            Status::Words => write!(f, "wfpatch: words"),
+            Status::Shelf => write!(f, "wfpatch: shelf"),
+            Status::Sink => write!(f, "wfpatch: sink"),
+            Status::Memory => write!(f, "wfpatch: memory"),
+            Status::Limit { what, number, most } => {
+                write!(f, "wfpatch: limit {what} {number} of {most}")
+            }
+            Status::Unbuilt { what } => write!(f, "wfpatch: unbuilt {what}"),
+        }
+    }
+}
