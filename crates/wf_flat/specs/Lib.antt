@@ -1,0 +1,11 @@
+pub mod Lists
+pub mod State
+pub mod Counts
+pub mod Boot
+pub mod Memory
+pub mod Steps
+pub mod Calls
+pub mod Legal
+pub mod Follows
+pub mod Unbuilt
+pub mod Laws

@@ -1,0 +1,12 @@
+//! Laws of the flat machine, over every legal journal.
+ghost use Rattle.wf_flat.specs.Laws.{HartsAreDetermined, UnbuiltHasNoUnit};
+
+/// A hart has at most one next event.
+pub fn harts_are_determined()
+    ensures { HartsAreDetermined }
+{}
+
+/// Where a hart is to begin a try and what it is to do there is not built, no unit of it is legal.
+pub fn unbuilt_has_no_unit()
+    ensures { UnbuiltHasNoUnit }
+{}

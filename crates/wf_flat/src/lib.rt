@@ -1,0 +1,18 @@
+//! The flat machine: one table of data pages, one text per generation, and harts. This is what a
+//! reader must believe; what runs stands for it.
+#![tactic(auto)]
+
+mod booting;
+mod counting;
+mod event;
+mod hart;
+mod laws;
+mod state;
+#[cfg(test)]
+mod tests;
+mod text;
+
+pub use booting::{BootFault, boot};
+pub use event::{Actor, Entry, Event, WaitFor};
+pub use laws::{harts_are_determined, unbuilt_has_no_unit};
+pub use state::{Flat, FlatHart, FlatPage, Gen, Life, Reservation, Stage};

@@ -1,0 +1,42 @@
+//! Reading text.
+ghost use Rattle.std.specs.Prelude.{◌≡◌, option_copied};
+ghost use Rattle.wf_outside.specs.Images.{text_numbers};
+ghost use Rattle.wf_flat.specs.Lists.{IsRising};
+ghost use Rattle.wf_flat.specs.Memory.{word_at, page_in};
+ghost use Rattle.wf_flat.specs.Steps.{text_of};
+
+use crate::Flat;
+use wf_outside::Page;
+
+// The page of a number, in pages by rising number.
+fn find_page(text: &[Page], number: u64) -> Option<&Page>
+    requires { IsRising (text_numbers text.now) }
+    ensures { option_copied result ≡ page_in text.now number }
+{
+    match text.binary_search_by_key(&number, |page| page.number as u64) {
+        Ok(at) => Some(&text[at]),
+        Err(_) => None,
+    }
+}
+
+// The four bytes at an address.
+fn find_word(text: &[Page], at: u64) -> Option<u32>
+    requires { IsRising (text_numbers text.now) }
+    ensures { result ≡ word_at text.now at }
+{
+    let page = find_page(text, at / 4096)?;
+    let place = at % 4096;
+    let word = page.words[(place / 8) as usize];
+    Some((word >> (8 * (place % 8)) & 0xFFFF_FFFF) as u32)
+}
+
+impl Flat {
+    /// The four bytes at an address, a multiple of 4, of a generation's text; `None` where its page is
+    /// no text of it. It takes time in the logarithm of the pages.
+    pub fn text_word(&self, generation: u32, at: u64) -> Option<u32>
+        ensures { result ≡ word_at (text_of self.now generation) at }
+    {
+        let version = self.gens.get(generation as usize)?;
+        find_word(&version.text, at)
+    }
+}

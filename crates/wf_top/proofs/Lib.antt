@@ -1,0 +1,11 @@
+pub mod ImageLemmas
+pub mod LineLemmas
+pub mod ScriptLemmas
+pub mod StepLemmas
+pub mod RunLemmas
+pub mod DeterminedLemmas
+pub mod AnswerLemmas
+pub mod PutLemmas
+pub mod ReportLemmas
+pub mod SizeLemmas
+pub mod TopLemmas

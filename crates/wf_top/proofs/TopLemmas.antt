@@ -1,0 +1,42 @@
+-- What a run answers, seen by its words.
+use Rattle.std.proofs.Common.{◌≡◌, ◌⊎◌, ℕ, List, Option, Some, inl, inr}
+use Rattle.std.specs.Prelude.{IfSome}
+use Rattle.wf_outside.specs.Files.{File, first_bytes}
+use Rattle.wf_outside.specs.declared.status.Status.{Status}
+use Rattle.wf_outside.specs.declared.status.Status.TheVariants.{Done}
+use Rattle.wf_top.specs.Words.{run_words}
+use Rattle.wf_top.specs.Answers.{IfRun, IsFault, CallsFor, PutsRun}
+use Rattle.wf_top.specs.Laws.{AnswersAreOne, RunsMeetNothing}
+use Rattle.wf_top.proofs.SizeLemmas.{if_some_more}
+
+-- the words are those of a run on these two files
+by_words : (words : List (List ℕ)) (holds : Option (List File)) (P : Option (List ℕ) → Option (List ℕ) → Type 0) (image script : List ℕ) → run_words words ≡ Some (image, script)
+    → IfSome holds (λ files. P (first_bytes image files) (first_bytes script files)) → IfRun words holds P
+by_words words holds P image script e h = rw e h
+
+-- a run that was put is called for
+put_is_called_for : RunsMeetNothing → (image script before now : Option (List ℕ)) → PutsRun image script before now → CallsFor image script Done
+put_is_called_for law image script before now d =
+    record { image = d.image; script = d.script; is_image = d.is_image; is_script = d.is_script; holds = λ pc meets. law d.image d.script d.holds.0 pc d.holds.1 meets }
+
+pub done_cause : RunsMeetNothing → (words : List (List ℕ)) (holds : Option (List File)) (image script : List ℕ) (before now : Option (List ℕ)) → run_words words ≡ Some (image, script)
+    → IfSome holds (λ files. PutsRun (first_bytes image files) (first_bytes script files) before now) → IfSome holds (λ files. IsFault Done ⊎ CallsFor (first_bytes image files) (first_bytes script files) Done)
+done_cause law words holds image script before now e h =
+    if_some_more holds (λ (files : List File). PutsRun (first_bytes image files) (first_bytes script files) before now) (λ (files : List File). IsFault Done ⊎ CallsFor (first_bytes image files) (first_bytes script files) Done)
+    (λ files d. inr (put_is_called_for law (first_bytes image files) (first_bytes script files) before now d)) h
+
+pub cause_by : (words : List (List ℕ)) (holds : Option (List File)) (image script : List ℕ) (result : Status) → run_words words ≡ Some (image, script)
+    → IfSome holds (λ files. IsFault result ⊎ CallsFor (first_bytes image files) (first_bytes script files) result) → IfRun words holds (λ image script. IsFault result ⊎ CallsFor image script result)
+cause_by words holds image script result e h = by_words words holds (λ image script. IsFault result ⊎ CallsFor image script result) image script e h
+
+answered : AnswersAreOne → (image script : Option (List ℕ)) (result status : Status) → IsFault result ⊎ CallsFor image script result → CallsFor image script status → (result ≡ status) ⊎ IsFault result
+answered law image script result status d called = elim d [ inl fault ↦ inr fault | inr cause ↦ inl (law image script result status cause called) ]
+
+pub answer_by : AnswersAreOne → (words : List (List ℕ)) (holds : Option (List File)) (image script : List ℕ) (result : Status) → run_words words ≡ Some (image, script)
+    → IfSome holds (λ files. IsFault result ⊎ CallsFor (first_bytes image files) (first_bytes script files) result)
+    → IfRun words holds (λ image script. (status : Status) → CallsFor image script status → (result ≡ status) ⊎ IsFault result)
+answer_by law words holds image script result e h =
+    by_words words holds (λ image script. (status : Status) → CallsFor image script status → (result ≡ status) ⊎ IsFault result) image script e
+    (if_some_more holds (λ (files : List File). IsFault result ⊎ CallsFor (first_bytes image files) (first_bytes script files) result)
+    (λ (files : List File). (status : Status) → CallsFor (first_bytes image files) (first_bytes script files) status → (result ≡ status) ⊎ IsFault result)
+    (λ files d status called. answered law (first_bytes image files) (first_bytes script files) result status d called) h)

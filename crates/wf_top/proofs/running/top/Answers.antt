@@ -1,0 +1,26 @@
+use Rattle.wf_outside.specs.declared.status.Status.TheVariants.{Done}
+use Rattle.wf_top.proofs.TopLemmas.{done_cause, cause_by, answer_by}
+use Rattle.wf_top.proofs.running.top.Goals as goal
+
+pub returns-in-Ok-clause-cause : goal.returns-in-Ok-clause-cause
+returns-in-Ok-clause-cause g c =
+    let holds = g.S.Shelf.holds c.args.shelf.now in
+    let image = c.in-Some.image_name.now in
+    let script = c.in-Some.script_name.now in
+    cause_by c.args.words.now holds image script Done c.in-Some.ensures.some
+    (done_cause c.runs_are_determined.ensures.whole c.args.words.now holds image script _ _ c.in-Some.ensures.some c.in-Ok.ensures.done)
+
+pub returns-in-Ok-clause-answer : goal.returns-in-Ok-clause-answer
+returns-in-Ok-clause-answer g c =
+    let holds = g.S.Shelf.holds c.args.shelf.now in
+    let image = c.in-Some.image_name.now in
+    let script = c.in-Some.script_name.now in
+    answer_by c.runs_are_determined.ensures.answers c.args.words.now holds image script Done c.in-Some.ensures.some
+    (done_cause c.runs_are_determined.ensures.whole c.args.words.now holds image script _ _ c.in-Some.ensures.some c.in-Ok.ensures.done)
+
+pub returns-in-Err-clause-answer : goal.returns-in-Err-clause-answer
+returns-in-Err-clause-answer g c =
+    let holds = g.S.Shelf.holds c.args.shelf.now in
+    let image = c.in-Some.image_name.now in
+    let script = c.in-Some.script_name.now in
+    answer_by c.runs_are_determined.ensures.answers c.args.words.now holds image script c.in-Err.status c.in-Some.ensures.some c.in-Err.ensures.cause

@@ -1,0 +1,13 @@
+pub mod Words
+pub mod PlainImage
+pub mod PlainScript
+pub mod PlainLines
+pub mod Lines
+pub mod Report
+pub mod Follows
+pub mod Stepping
+pub mod Running
+pub mod Answers
+pub mod Laws
+pub mod Fetching
+pub mod Putting

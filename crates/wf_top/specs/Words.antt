@@ -1,0 +1,13 @@
+-- The words of the command line.
+use Rattle.std.specs.Prelude.{◌==◌, ◌&&◌, ℕ, List, [], ◌∷◌, Bool, false, not, Option, Some, None, if◌then◌else◌, codes}
+use Rattle.std.specs.Str.{bytes_eq}
+
+abbrev pub begins_with_dash : List ℕ → Bool
+begins_with_dash [] = false
+begins_with_dash (c ∷ cs) = c == 45
+
+-- the names of the image and of the script, where the words are those of `run IMAGE SCRIPT`
+abbrev pub run_words : List (List ℕ) → Option (List ℕ × List ℕ)
+run_words (command ∷ image ∷ script ∷ []) =
+    if bytes_eq command (codes "run") && (not (begins_with_dash image) && not (begins_with_dash script)) then Some (image, script) else None
+run_words words = None

@@ -1,0 +1,16 @@
+//! The runs of the program.
+#![tactic(auto)]
+
+mod input;
+mod laws;
+mod lines;
+mod output;
+mod plain_image;
+mod report;
+mod running;
+mod script;
+mod stepping;
+mod words;
+
+pub use laws::runs_are_determined;
+pub use running::top;

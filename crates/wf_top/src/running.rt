@@ -1,0 +1,146 @@
+//! The top call.
+ghost use Rattle.std.specs.Prelude.{◌≡◌, ◌≢◌, ◌↔◌, ◌⊎◌, ◌≤◌, ℕ, List, IfOk, IfErr, IfSome, OnOk, Some, None, Err};
+ghost use Rattle.wf_outside.specs.Files.{HasRisen, first_bytes};
+ghost use Rattle.wf_outside.specs.declared.status.Status.{Status};
+ghost use Rattle.wf_flat.specs.Counts.{used_of};
+ghost use Rattle.wf_flat.specs.Boot.{boot_of};
+ghost use Rattle.wf_top.specs.Words.{run_words};
+ghost use Rattle.wf_top.specs.PlainScript.{ArePlain};
+ghost use Rattle.wf_top.specs.Running.{IsRun, sizes};
+ghost use Rattle.wf_top.specs.Fetching.{IsRunStatus};
+ghost use Rattle.wf_top.specs.Answers.{HoldsImage, CallsFor, IfRun, IsFault, PutsRun, PutsFront};
+
+use crate::input::{fetch_image, fetch_script};
+use crate::laws::runs_are_determined;
+use crate::output::put_all;
+use crate::report::report;
+use crate::script::Command;
+use crate::stepping::{StepFault, follow};
+use crate::words::read_words;
+use std::alloc::Global;
+use wf_flat::{BootFault, boot};
+use wf_outside::{Image, Limits, Memory, Shelf, Sink, Status, Text, Unbuilt};
+
+const SIZES: Limits = Limits {
+    frames: 1024,
+    last_writes: 549_755_813_887,
+    last_birth: 8_388_607,
+};
+
+// The report of one hart that runs the script on the image.
+fn report_of(alloc: Global, image: &Image, script: &[Command]) -> Result<Vec<u8>, Status>
+    requires plain { ArePlain script.now }
+    requires fits { used_of (boot_of image.now 1 sizes) ≤ 1024 }
+    ensures ok { IfOk result (λ text. IsRun image.now script.now text.items) }
+    ensures cause { IfErr result (λ status. IsRunStatus image.now script.now status) }
+{
+    let mut flat = match boot(alloc, image, 1, SIZES) {
+        Ok(flat) => flat,
+        Err(BootFault::NoFrames { .. }) => unreachable!(),
+        Err(BootFault::Memory) => return Err(Status::Memory),
+    };
+    let mut journal = Vec::new(alloc);
+    match follow(&mut flat, &mut journal, script) {
+        Ok(()) => {}
+        Err(StepFault::Unbuilt { pc }) => return Err(Status::Unbuilt {
+            what: Unbuilt::Step { pc },
+        }),
+        Err(StepFault::Memory) => return Err(Status::Memory),
+    }
+    match report(alloc, &journal, &flat) {
+        Ok(text) => Ok(text),
+        Err(Memory) => Err(Status::Memory),
+    }
+}
+
+// Runs the script of one name on the image of another, and puts the report.
+fn run<S: Shelf, K: Sink>(
+    alloc: Global,
+    image_name: &[u8],
+    script_name: &[u8],
+    shelf: &mut S,
+    sink: &mut K,
+) -> Result<(), Status>
+    ensures shelf { result ≡ Err Status.Shelf
+        → HasRisen (S.faults shelf.old image_name.now) (S.faults shelf.new image_name.now) ⊎ HasRisen (S.faults shelf.old script_name.now) (S.faults shelf.new script_name.now) }
+    ensures needed { result ≡ Err Status.Shelf → IfSome (S.holds shelf.old) (λ files.
+        HasRisen (S.faults shelf.old image_name.now) (S.faults shelf.new image_name.now)
+        ⊎ (HoldsImage (first_bytes image_name.now files) × HasRisen (S.faults shelf.old script_name.now) (S.faults shelf.new script_name.now))) }
+    ensures sink { result ≡ Err Status.Sink → HasRisen (K.faults sink.old) (K.faults sink.new) }
+    ensures done { OnOk result (IfSome (S.holds shelf.old) (λ files.
+        PutsRun (first_bytes image_name.now files) (first_bytes script_name.now files) (K.got sink.old) (K.got sink.new))) }
+    ensures cause { IfErr result (λ status. IfSome (S.holds shelf.old) (λ files.
+        IsFault status ⊎ CallsFor (first_bytes image_name.now files) (first_bytes script_name.now files) status)) }
+    ensures kind { IfErr result (λ status. (status ≢ Status.Done) × (status ≢ Status.Words)) }
+    ensures holds { S.holds shelf.new ≡ S.holds shelf.old }
+    ensures counts { (other : List ℕ) → S.faults shelf.old other ≤ S.faults shelf.new other }
+    ensures unput { IfErr result (λ status. status ≢ Status.Sink → status ≢ Status.Memory
+        → (K.got sink.new ≡ K.got sink.old) × (K.faults sink.new ≡ K.faults sink.old)) }
+    ensures front { IfErr result (λ status. IfSome (S.holds shelf.old) (λ files. status ≡ Status.Sink
+        → PutsFront (first_bytes image_name.now files) (first_bytes script_name.now files) (K.got sink.old) (K.got sink.new))) }
+    ensures front_or_none { IfErr result (λ status. IfSome (S.holds shelf.old) (λ files. (K.got sink.new ≡ K.got sink.old)
+        ⊎ PutsFront (first_bytes image_name.now files) (first_bytes script_name.now files) (K.got sink.old) (K.got sink.new))) }
+{
+    let image = match fetch_image(alloc, shelf, image_name) {
+        Ok(image) => image,
+        Err(status) => return Err(status),
+    };
+    let script = match fetch_script(alloc, shelf, script_name) {
+        Ok(script) => script,
+        Err(status) => return Err(status),
+    };
+    let text = match report_of(alloc, &image, &script) {
+        Ok(text) => text,
+        Err(status) => return Err(status),
+    };
+    match put_all(sink, &text) {
+        Ok(()) => Ok(()),
+        Err(status) => Err(status),
+    }
+}
+
+/// Runs a command, whose words these are, on the files of the shelf, and puts its output into the sink.
+/// The one command is `run IMAGE SCRIPT`: one hart runs the script, a plain one, on the image, a plain
+/// one, and the report is put.
+pub fn top<S: Shelf, K: Sink>(alloc: Global, words: &[Text], shelf: &mut S, sink: &mut K) -> Status
+    // The words are those of no command.
+    ensures words { result ≡ Status.Words ↔ (run_words words.now ≡ None) }
+
+    // A read of a needed name failed: of the image's, or of the script's where the image is plain. Where
+    // the shelf tells nothing of what it holds, both are needed.
+    ensures shelf { result ≡ Status.Shelf → IfSome (run_words words.now) (λ names.
+        HasRisen (S.faults shelf.old names.0) (S.faults shelf.new names.0) ⊎ HasRisen (S.faults shelf.old names.1) (S.faults shelf.new names.1)) }
+    ensures needed { result ≡ Status.Shelf → IfSome (run_words words.now) (λ names. IfSome (S.holds shelf.old) (λ files.
+        HasRisen (S.faults shelf.old names.0) (S.faults shelf.new names.0)
+        ⊎ (HoldsImage (first_bytes names.0 files) × HasRisen (S.faults shelf.old names.1) (S.faults shelf.new names.1)))) }
+
+    // A put failed.
+    ensures sink { result ≡ Status.Sink → HasRisen (K.faults sink.old) (K.faults sink.new) }
+
+    // What was put is the report of one run of the flat machine, which follows the script command by command.
+    ensures done { result ≡ Status.Done → IfRun words.now (S.holds shelf.old) (λ image script. PutsRun image script (K.got sink.old) (K.got sink.new)) }
+
+    // What is answered stands in the files, or is a fault; and what the files call for is answered, but for a fault.
+    ensures cause { IfRun words.now (S.holds shelf.old) (λ image script. IsFault result ⊎ CallsFor image script result) }
+    ensures answer { IfRun words.now (S.holds shelf.old) (λ image script. (status : Status) → CallsFor image script status → (result ≡ status) ⊎ IsFault result) }
+
+    // Nothing is put unless the answer is Done, Sink or Memory; then a front of the report at most.
+    ensures unput { result ≢ Status.Done → result ≢ Status.Sink → result ≢ Status.Memory
+        → (K.got sink.new ≡ K.got sink.old) × (K.faults sink.new ≡ K.faults sink.old) }
+    ensures front { result ≡ Status.Sink → IfRun words.now (S.holds shelf.old) (λ image script. PutsFront image script (K.got sink.old) (K.got sink.new)) }
+    ensures front_or_none { result ≡ Status.Memory → IfRun words.now (S.holds shelf.old) (λ image script.
+        (K.got sink.new ≡ K.got sink.old) ⊎ PutsFront image script (K.got sink.old) (K.got sink.new)) }
+
+    // What the shelf holds stays, and no count falls.
+    ensures holds { S.holds shelf.new ≡ S.holds shelf.old }
+    ensures counts { (other : List ℕ) → S.faults shelf.old other ≤ S.faults shelf.new other }
+{
+    runs_are_determined();
+    let Some((image_name, script_name)) = read_words(words) else {
+        return Status::Words;
+    };
+    match run(alloc, image_name, script_name, shelf, sink) {
+        Ok(()) => Status::Done,
+        Err(status) => status,
+    }
+}
