@@ -3,7 +3,7 @@ use Rattle.std.proofs.Common.{◌≡◌, ◌⊎◌, ℕ, List, Option, Some, inl
 use Rattle.std.specs.Prelude.{IfSome}
 use Rattle.wf_outside.specs.Files.{File, first_bytes}
 use Rattle.wf_outside.specs.declared.status.Status.{Status}
-use Rattle.wf_outside.specs.declared.status.Status.TheVariants.{Done}
+use Rattle.wf_outside.specs.declared.status.Status.TheVariants.{Done, Shelf, Sink, Memory}
 use Rattle.wf_top.specs.Words.{run_words}
 use Rattle.wf_top.specs.Answers.{IfRun, IsFault, CallsFor, PutsRun}
 use Rattle.wf_top.specs.Laws.{AnswersAreOne, RunsMeetNothing}
@@ -40,3 +40,22 @@ answer_by law words holds image script result e h =
     (if_some_more holds (λ (files : List File). IsFault result ⊎ CallsFor (first_bytes image files) (first_bytes script files) result)
     (λ (files : List File). (status : Status) → CallsFor (first_bytes image files) (first_bytes script files) status → (result ≡ status) ⊎ IsFault result)
     (λ files d status called. answered law (first_bytes image files) (first_bytes script files) result status d called) h)
+
+-- what is called for, and no fault
+without_fault : AnswersAreOne → (image script : Option (List ℕ)) (result : Status) (A B C : Type 0) → IsFault result ⊎ CallsFor image script result → (result ≡ Shelf → A ⊎ B) → (result ≡ Sink → C)
+    → CallsFor image script Done → ¬ A → ¬ B → ¬ C → (result ≡ Done) ⊎ (result ≡ Memory)
+without_fault law image script result A B C d shelf sink called no_a no_b no_c = elim d [
+  | inl fault ↦ (elim fault [
+    | inl e ↦ (elim (shelf e) [ inl a ↦ absurd (no_a a) | inr b ↦ absurd (no_b b) ])
+    | inr other ↦ (elim other [ inl e ↦ absurd (no_c (sink e)) | inr e ↦ inr e ])
+  ])
+  | inr cause ↦ inl (law image script result Done cause called)
+]
+
+pub complete_by : AnswersAreOne → (words : List (List ℕ)) (holds : Option (List File)) (image script : List ℕ) (result : Status) (A : List ℕ → Type 0) (C : Type 0) → run_words words ≡ Some (image, script)
+    → IfSome holds (λ files. IsFault result ⊎ CallsFor (first_bytes image files) (first_bytes script files) result) → (result ≡ Shelf → A image ⊎ A script) → (result ≡ Sink → C)
+    → IfSome (run_words words) (λ names. IfSome holds (λ files. CallsFor (first_bytes names.0 files) (first_bytes names.1 files) Done → ¬ A names.0 → ¬ A names.1 → ¬ C → (result ≡ Done) ⊎ (result ≡ Memory)))
+complete_by law words holds image script result A C e h shelf sink =
+    rw e (if_some_more holds (λ (files : List File). IsFault result ⊎ CallsFor (first_bytes image files) (first_bytes script files) result)
+    (λ (files : List File). CallsFor (first_bytes image files) (first_bytes script files) Done → ¬ A image → ¬ A script → ¬ C → (result ≡ Done) ⊎ (result ≡ Memory))
+    (λ files d called no_a no_b no_c. without_fault law (first_bytes image files) (first_bytes script files) result (A image) (A script) C d shelf sink called no_a no_b no_c) h)

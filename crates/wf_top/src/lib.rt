@@ -10,6 +10,8 @@ mod report;
 mod running;
 mod script;
 mod stepping;
+#[cfg(test)]
+mod tests;
 mod words;
 
 pub use laws::runs_are_determined;

@@ -124,6 +124,12 @@ pub fn top<S: Shelf, K: Sink>(alloc: Global, words: &[Text], shelf: &mut S, sink
     ensures cause { IfRun words.now (S.holds shelf.old) (λ image script. IsFault result ⊎ CallsFor image script result) }
     ensures answer { IfRun words.now (S.holds shelf.old) (λ image script. (status : Status) → CallsFor image script status → (result ≡ status) ⊎ IsFault result) }
 
+    // Where the files call for a whole run and no count of faults rose, the answer is Done or Memory.
+    ensures complete { IfSome (run_words words.now) (λ names. IfSome (S.holds shelf.old) (λ files.
+        CallsFor (first_bytes names.0 files) (first_bytes names.1 files) Status.Done
+        → ¬ HasRisen (S.faults shelf.old names.0) (S.faults shelf.new names.0) → ¬ HasRisen (S.faults shelf.old names.1) (S.faults shelf.new names.1)
+        → ¬ HasRisen (K.faults sink.old) (K.faults sink.new) → (result ≡ Status.Done) ⊎ (result ≡ Status.Memory))) }
+
     // Nothing is put unless the answer is Done, Sink or Memory; then a front of the report at most.
     ensures unput { result ≢ Status.Done → result ≢ Status.Sink → result ≢ Status.Memory
         → (K.got sink.new ≡ K.got sink.old) × (K.faults sink.new ≡ K.faults sink.old) }

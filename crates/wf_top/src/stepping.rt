@@ -1,16 +1,12 @@
 //! What steps the machine: units of harts, and the commands of a script.
-ghost use Rattle.std.specs.Prelude.{◌≡◌, ◌<◌, ◌≤◌, ◌+◌, ℕ, OnOk, OnErr, IfOk, Some, None, Err, length, slice_get, slice_index, vec_len, vec_capacity};
-ghost use Rattle.rv_inst.specs.Rows.{inst_of};
-ghost use Rattle.rv_inst.specs.Meanings.{want_of};
-ghost use Rattle.wf_flat.specs.State.{HartState};
-ghost use Rattle.wf_flat.specs.Memory.{word_at};
-ghost use Rattle.wf_flat.specs.Steps.{OfHart, text_of};
+ghost use Rattle.std.specs.Prelude.{◌≡◌, ◌<◌, ◌≤◌, ◌+◌, ℕ, OnOk, OnErr, Some, Err, length, vec_len, vec_capacity};
 ghost use Rattle.std.specs.List.{AllByRecursion};
+ghost use Rattle.wf_flat.specs.Steps.{OfHart};
 ghost use Rattle.wf_flat.specs.Legal.{at_rest};
 ghost use Rattle.wf_flat.specs.Follows.{IsUnit, AreUnits};
 ghost use Rattle.wf_flat.specs.Unbuilt.{IsUnbuilt};
 ghost use Rattle.wf_top.specs.Follows.{IsBlock, Follows, MeetsUnbuilt};
-ghost use Rattle.wf_top.specs.Stepping.{IsResting, IsThere, IsAt, RunsTo, ExitsWith, Continues, StopsIn, StopsInUnits};
+ghost use Rattle.wf_top.specs.Stepping.{IsResting, IsThere, IsAt, RunsTo, ExitsWith, Continues, StopsIn};
 
 use crate::script::Command;
 use rv_hart::{finish, plan};

@@ -1,5 +1,7 @@
+use Rattle.std.proofs.Common.{ap, ℕ, List, Err}
+use Rattle.wf_outside.specs.Files.{HasRisen}
 use Rattle.wf_outside.specs.declared.status.Status.TheVariants.{Done}
-use Rattle.wf_top.proofs.TopLemmas.{done_cause, cause_by, answer_by}
+use Rattle.wf_top.proofs.TopLemmas.{done_cause, cause_by, answer_by, complete_by}
 use Rattle.wf_top.proofs.running.top.Goals as goal
 
 pub returns-in-Ok-clause-cause : goal.returns-in-Ok-clause-cause
@@ -24,3 +26,13 @@ returns-in-Err-clause-answer g c =
     let image = c.in-Some.image_name.now in
     let script = c.in-Some.script_name.now in
     answer_by c.runs_are_determined.ensures.answers c.args.words.now holds image script c.in-Err.status c.in-Some.ensures.some c.in-Err.ensures.cause
+
+pub returns-in-Err-clause-complete : goal.returns-in-Err-clause-complete
+returns-in-Err-clause-complete g c =
+    let holds = g.S.Shelf.holds c.args.shelf.now in
+    let image = c.in-Some.image_name.now in
+    let script = c.in-Some.script_name.now in
+    complete_by c.runs_are_determined.ensures.answers c.args.words.now holds image script c.in-Err.status
+    (λ (name : List ℕ). HasRisen (g.S.Shelf.faults c.args.shelf.now name) (g.S.Shelf.faults c.run.new.shelf name))
+    (HasRisen (g.K.Sink.faults c.args.sink.now) (g.K.Sink.faults c.run.new.sink))
+    c.in-Some.ensures.some c.in-Err.ensures.cause (λ e. c.in-Err.ensures.shelf (ap Err e)) (λ e. c.in-Err.ensures.sink (ap Err e))
