@@ -4,5 +4,5 @@
 mod arithmetic;
 mod op;
 
-pub use arithmetic::alu;
-pub use op::AluOp;
+pub use arithmetic::{alu, taken};
+pub use op::{AluOp, Cond};

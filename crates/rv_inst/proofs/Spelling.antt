@@ -5,7 +5,7 @@ use Rattle.std.proofs.lemmas.Int.{ints}
 use Rattle.rv_alu.specs.declared.op.AluOp.TheVariants.{Add}
 use Rattle.rv_inst.specs.declared.inst.Inst.{Inst}
 use Rattle.rv_inst.specs.declared.inst.Inst.TheVariants.{AluImm, Ecall}
-use Rattle.rv_inst.specs.Fields.{sign_extended}
+use Rattle.rv_alu.specs.Arithmetic.{signed}
 use Rattle.rv_inst.specs.Rows.{IsRow, IsSpelled}
 use Rattle.rv_inst.proofs.Words.{word_i, word_i-fits, word_i-opcode, word_i-rd, word_i-funct, word_i-rs1, word_i-imm, IsParts}
 
@@ -18,7 +18,7 @@ low_12-fits : (z : ℤ) → negsuc 2047 ≤ℤ z → z ≤ℤ pos 2047 → low_1
 low_12-fits (pos n) low high = omega (arith, ints)
 low_12-fits (negsuc n) low high = omega (arith, ints)
 
-low_12-extended : (z : ℤ) → negsuc 2047 ≤ℤ z → z ≤ℤ pos 2047 → sign_extended 12 (low_12 z) ≡ z
+low_12-extended : (z : ℤ) → negsuc 2047 ≤ℤ z → z ≤ℤ pos 2047 → signed 12 (low_12 z) ≡ z
 low_12-extended (pos n) low high = grind (arith, ints, nat_tests)
 low_12-extended (negsuc n) low high = grind (arith, ints, nat_tests)
 
@@ -38,7 +38,8 @@ spells (AluImm Add rd rs1 imm) h =
         word_i-funct _ _ _ _ _ parts,
         sym (word_i-rd _ _ _ _ _ parts),
         sym (word_i-rs1 _ _ _ _ _ parts),
-        sym (ap (sign_extended 12) (word_i-imm _ _ _ _ _ parts) ∙ low_12-extended imm h.2 h.3),
+        sym (ap (signed 12) (word_i-imm _ _ _ _ _ parts) ∙ low_12-extended imm h.2 h.3),
       ),
     )
+spells (AluImm _ rd rs1 imm) h = elim h [ ]
 spells Ecall h = (0x73, omega arith, refl)

@@ -1,6 +1,7 @@
 -- The fields of a 32-bit instruction (RISC-V unprivileged ISA, "Base Instruction Formats" and
 -- "Immediate Encoding Variants").
-use Rattle.std.specs.Prelude.{ℕ, ◌/◌, ◌%◌, ◌^◌, ◌-◌, ℤ, pos, ◌-ℤ◌, nat_lt, if◌then◌else◌}
+use Rattle.std.specs.Prelude.{ℕ, ◌/◌, ◌%◌, ◌^◌, ℤ}
+use Rattle.rv_alu.specs.Arithmetic.{signed}
 
 -- bits 6..0
 abbrev pub opcode : ℕ → ℕ
@@ -18,10 +19,6 @@ funct3 word = word / 2 ^ 12 % 2 ^ 3
 abbrev pub rs1_in : ℕ → ℕ
 rs1_in word = word / 2 ^ 15 % 2 ^ 5
 
--- so many low bits as a two's complement number
-abbrev pub sign_extended : ℕ → ℕ → ℤ
-sign_extended bits n = if nat_lt n (2 ^ (bits - 1)) then pos n else pos n -ℤ pos (2 ^ bits)
-
 -- the I-immediate: bits 31..20, sign-extended
 abbrev pub imm_i : ℕ → ℤ
-imm_i word = sign_extended 12 (word / 2 ^ 20 % 2 ^ 12)
+imm_i word = signed 12 (word / 2 ^ 20 % 2 ^ 12)

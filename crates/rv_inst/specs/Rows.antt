@@ -10,6 +10,8 @@ use Rattle.rv_inst.specs.Fields.{opcode, funct3, rd_in, rs1_in, imm_i}
 abbrev pub IsRow : ℕ → Inst → Type 0
 -- addi: OP-IMM, funct3 0
 IsRow word (AluImm Add rd rs1 imm) = (opcode word ≡ 0x13) × (funct3 word ≡ 0) × (rd ≡ rd_in word) × (rs1 ≡ rs1_in word) × (imm ≡ imm_i word)
+-- no other operation has a row yet
+IsRow word (AluImm _ rd rs1 imm) = ⊥
 -- ecall: the whole word
 IsRow word Ecall = word ≡ 0x73
 
@@ -26,4 +28,5 @@ inst_of word =
 -- the fields are in range, so that some word is this instruction
 abbrev pub IsSpelled : Inst → Type 0
 IsSpelled (AluImm Add rd rs1 imm) = (rd < 32) × (rs1 < 32) × (negsuc 2047 ≤ℤ imm) × (imm ≤ℤ pos 2047)
+IsSpelled (AluImm _ rd rs1 imm) = ⊥
 IsSpelled Ecall = Unit {0}
