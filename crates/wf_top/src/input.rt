@@ -48,10 +48,7 @@ pub fn fetch_image<S: Shelf>(alloc: Global, shelf: &mut S, name: &[u8]) -> Resul
     ensures holds { S.holds shelf.new ≡ S.holds shelf.old }
     ensures counts { (other : List ℕ) → S.faults shelf.old other ≤ S.faults shelf.new other }
 {
-    let bytes = match fetch(shelf, name) {
-        Ok(bytes) => bytes,
-        Err(status) => return Err(status),
-    };
+    let bytes = fetch(shelf, name)?;
     let read = match read_image(alloc, &bytes) {
         Ok(read) => read,
         Err(Memory) => return Err(Status::Memory),
@@ -78,10 +75,7 @@ pub fn fetch_script<S: Shelf>(
     ensures holds { S.holds shelf.new ≡ S.holds shelf.old }
     ensures counts { (other : List ℕ) → S.faults shelf.old other ≤ S.faults shelf.new other }
 {
-    let bytes = match fetch(shelf, name) {
-        Ok(bytes) => bytes,
-        Err(status) => return Err(status),
-    };
+    let bytes = fetch(shelf, name)?;
     match read_script(alloc, &bytes) {
         Ok(script) => Ok(script),
         Err(ScriptFault::Line { line }) => Err(Status::Unbuilt {

@@ -81,22 +81,10 @@ fn run<S: Shelf, K: Sink>(
     ensures front_or_none { IfErr result (λ status. IfSome (S.holds shelf.old) (λ files. (K.got sink.new ≡ K.got sink.old)
         ⊎ PutsFront (first_bytes image_name.now files) (first_bytes script_name.now files) (K.got sink.old) (K.got sink.new))) }
 {
-    let image = match fetch_image(alloc, shelf, image_name) {
-        Ok(image) => image,
-        Err(status) => return Err(status),
-    };
-    let script = match fetch_script(alloc, shelf, script_name) {
-        Ok(script) => script,
-        Err(status) => return Err(status),
-    };
-    let text = match report_of(alloc, &image, &script) {
-        Ok(text) => text,
-        Err(status) => return Err(status),
-    };
-    match put_all(sink, &text) {
-        Ok(()) => Ok(()),
-        Err(status) => Err(status),
-    }
+    let image = fetch_image(alloc, shelf, image_name)?;
+    let script = fetch_script(alloc, shelf, script_name)?;
+    let text = report_of(alloc, &image, &script)?;
+    put_all(sink, &text)
 }
 
 /// Runs a command, whose words these are, on the files of the shelf, and puts its output into the sink.

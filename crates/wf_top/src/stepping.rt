@@ -141,11 +141,8 @@ fn step_units(flat: &mut Flat, journal: &mut Vec<Entry>, h: u8, n: u64) -> Resul
     ensures rests { IsResting flat.new }
     ensures harts { length flat.new.harts ≡ length flat.old.harts }
 {
-    for i in 0..n {
-        match step(flat, journal, h) {
-            Ok(()) => {}
-            Err(fault) => return Err(fault),
-        }
+    for _ in 0..n {
+        step(flat, journal, h)?;
     }
     Ok(())
 }
@@ -177,10 +174,7 @@ pub fn follow(
     ensures harts { length flat.new.harts ≡ length flat.old.harts }
 {
     for command in script {
-        match obey(flat, journal, *command) {
-            Ok(()) => {}
-            Err(fault) => return Err(fault),
-        }
+        obey(flat, journal, *command)?;
     }
     Ok(())
 }

@@ -32,8 +32,5 @@ pub fn read_words(words: &[Text]) -> Option<(&[u8], &[u8])>
 fn begins_with_dash(word: &[u8]) -> bool
     ensures { result ≡ begins_with_dash word.now }
 {
-    match word {
-        [b'-', ..] => true,
-        _ => false,
-    }
+    matches!(word, [b'-', ..])
 }

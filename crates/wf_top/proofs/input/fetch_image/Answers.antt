@@ -6,13 +6,13 @@ use Rattle.wf_top.proofs.SizeLemmas.{plain_fits, reads_more, if_some_more}
 use Rattle.wf_top.proofs.input.fetch_image.Goals as goal
 
 pub returns-in-Some-clause-fits : goal.returns-in-Some-clause-fits
-returns-in-Some-clause-fits g c = plain_fits c.deref.result.now c.in-Some.image (sym c.in-Some.is ∙ c.in-Ok-read_image.ensures)
+returns-in-Some-clause-fits g c = plain_fits c.deref.result.now c.in-Some.image (sym c.in-Some.is ∙ c.in-Ok.ensures)
 
 pub returns-clause-cause : goal.returns-clause-cause
 returns-clause-cause g c =
     if_some_more (g.S.Shelf.holds c.args.shelf.now)
-    (λ (files : List File). Reads (first_bytes c.args.name.now files) (λ held. held ≡ c.in-Ok.bytes.items))
+    (λ (files : List File). Reads (first_bytes c.args.name.now files) (λ held. held ≡ c.in_ok-bytes.bytes.items))
     (λ (files : List File). Reads (first_bytes c.args.name.now files) (λ bytes. image_of bytes ≡ None))
-    (λ files r. reads_more (first_bytes c.args.name.now files) (λ held. held ≡ c.in-Ok.bytes.items) (λ bytes. image_of bytes ≡ None)
-    (λ bytes e. ap image_of (e ∙ sym c.deref.ensures.value) ∙ sym c.in-Ok-read_image.ensures ∙ c.in-None.is) r)
-    c.in-Ok.ensures.found
+    (λ files r. reads_more (first_bytes c.args.name.now files) (λ held. held ≡ c.in_ok-bytes.bytes.items) (λ bytes. image_of bytes ≡ None)
+    (λ bytes e. ap image_of (e ∙ sym c.deref.ensures.value) ∙ sym c.in-Ok.ensures ∙ c.in-None.is) r)
+    c.in_ok-bytes.ensures.found

@@ -3,9 +3,9 @@ use Rattle.wf_flat.specs.Follows.{AreUnits}
 use Rattle.wf_top.specs.Stepping.{IsResting, Continues}
 use Rattle.wf_top.proofs.stepping.step_units.Given as goal
 
-abbrev pub invariant-loop-i : goal.invariant-loop-i
-invariant-loop-i l = record {
-  made : Continues l.fn.flat l.fn.journal.items l.flat l.journal.items (AreUnits l.h l.i);
+abbrev pub invariant-loop : goal.invariant-loop
+invariant-loop l = record {
+  made : Continues l.fn.flat l.fn.journal.items l.flat l.journal.items (AreUnits l.h l.counter);
   rests : IsResting l.flat;
   harts : length l.flat.harts ≡ length l.fn.flat.harts;
 }
