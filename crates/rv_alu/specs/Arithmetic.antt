@@ -1,9 +1,12 @@
 -- What the operations and the conditions give of two registers, as whole numbers below 2 ^ 64.
--- RISC-V unprivileged ISA, "RV32I Base Integer Instruction Set" and "RV64I Base Integer Instruction Set".
-use Rattle.std.specs.Prelude.{ℕ, ◌+◌, ◌-◌, ◌*◌, ◌/◌, ◌%◌, ◌^◌, ◌==◌, ℤ, pos, ◌-ℤ◌, Bool, not, if◌then◌else◌, nat_lt, nat_le, int_lt, int_le, unsigned_abs, bit_and, bit_or, bit_xor}
+-- RISC-V unprivileged ISA, "RV32I Base Integer Instruction Set", "RV64I Base Integer Instruction Set",
+-- "M" Extension for Integer Multiplication and Division, and "A" Extension for Atomic Instructions.
+use Rattle.std.specs.Prelude.{ℕ, ◌+◌, ◌-◌, ◌*◌, ◌/◌, ◌%◌, ◌^◌, ◌==◌, ℤ, pos, neg_ℤ, ◌-ℤ◌, ◌*ℤ◌, Bool, not, min, max, if◌then◌else◌, nat_lt, nat_le, int_lt, int_le, int_div, int_rem, unsigned_abs, bit_and, bit_or, bit_xor}
 use Rattle.std.specs.Int.{int_div_euclid, int_rem_euclid}
 use Rattle.rv_alu.specs.declared.op.AluOp.{AluOp}
-use Rattle.rv_alu.specs.declared.op.AluOp.TheVariants.{Add, Sub, Sll, Slt, Sltu, Xor, Srl, Sra, Or, And, Addw, Subw, Sllw, Srlw, Sraw}
+use Rattle.rv_alu.specs.declared.op.AluOp.TheVariants.{Add, Sub, Sll, Slt, Sltu, Xor, Srl, Sra, Or, And, Addw, Subw, Sllw, Srlw, Sraw, Mul, Mulh, Mulhsu, Mulhu, Div, Divu, Rem, Remu, Mulw, Divw, Divuw, Remw, Remuw}
+use Rattle.rv_alu.specs.declared.op.AmoOp.{AmoOp}
+use Rattle.rv_alu.specs.declared.op.AmoOp.TheVariants as amo
 use Rattle.rv_alu.specs.declared.op.Cond.{Cond}
 use Rattle.rv_alu.specs.declared.op.Cond.TheVariants.{Equal, NotEqual, Less, GreaterOrEqual, LessUnsigned, GreaterOrEqualUnsigned}
 
@@ -31,7 +34,28 @@ shifted_right z k = int_div_euclid z (pos (2 ^ k))
 abbrev pub one_if : Bool → ℕ
 one_if test = if test then 1 else 0
 
--- "Integer Computational Instructions": the result
+-- the low 32 bits of a number, read as a two's complement number
+abbrev pub signed_word : ℕ → ℤ
+signed_word n = signed 32 (low_word n)
+
+-- "Division Operations", with its table of division by zero and overflow. By zero the quotient has all bits
+-- set and the remainder is the dividend. Else a signed quotient is rounded towards zero, and the remainder
+-- has the sign of the dividend. Of the least number and -1 the quotient is one too great, which the low bits
+-- alone make the least number again, and the remainder is 0
+abbrev pub signed_quotient : ℤ → ℤ → ℤ
+signed_quotient a b = if unsigned_abs b == 0 then neg_ℤ (pos 1) else int_div a b
+
+abbrev pub signed_remainder : ℤ → ℤ → ℤ
+signed_remainder a b = if unsigned_abs b == 0 then a else int_rem a b
+
+-- the same of unsigned numbers, the quotient of so many bits
+abbrev pub unsigned_quotient : ℕ → ℕ → ℕ → ℕ
+unsigned_quotient bits a b = if b == 0 then 2 ^ bits - 1 else a / b
+
+abbrev pub unsigned_remainder : ℕ → ℕ → ℕ
+unsigned_remainder a b = if b == 0 then a else a % b
+
+-- "Integer Computational Instructions", "Multiplication Operations", "Division Operations": the result
 abbrev pub alu_of : AluOp → ℕ → ℕ → ℕ
 alu_of Add a b = (a + b) % 2 ^ 64
 alu_of Sub a b = (a + 2 ^ 64 - b) % 2 ^ 64
@@ -48,7 +72,37 @@ alu_of Addw a b = extended (a + b)
 alu_of Subw a b = extended (a + 2 ^ 64 - b)
 alu_of Sllw a b = extended (a * 2 ^ (b % 2 ^ 5))
 alu_of Srlw a b = extended (low_word a / 2 ^ (b % 2 ^ 5))
-alu_of Sraw a b = wrapped (shifted_right (signed 32 (low_word a)) (b % 2 ^ 5))
+alu_of Sraw a b = wrapped (shifted_right (signed_word a) (b % 2 ^ 5))
+alu_of Mul a b = a * b % 2 ^ 64
+alu_of Mulh a b = wrapped (shifted_right (signed 64 a *ℤ signed 64 b) 64)
+alu_of Mulhsu a b = wrapped (shifted_right (signed 64 a *ℤ pos b) 64)
+alu_of Mulhu a b = a * b / 2 ^ 64
+alu_of Div a b = wrapped (signed_quotient (signed 64 a) (signed 64 b))
+alu_of Divu a b = unsigned_quotient 64 a b
+alu_of Rem a b = wrapped (signed_remainder (signed 64 a) (signed 64 b))
+alu_of Remu a b = unsigned_remainder a b
+alu_of Mulw a b = extended (a * b)
+alu_of Divw a b = extended (wrapped (signed_quotient (signed_word a) (signed_word b)))
+alu_of Divuw a b = extended (unsigned_quotient 32 (low_word a) (low_word b))
+alu_of Remw a b = extended (wrapped (signed_remainder (signed_word a) (signed_word b)))
+alu_of Remuw a b = extended (unsigned_remainder (low_word a) (low_word b))
+
+-- "Atomic Memory Operations": what is made of the old number in memory and that of the register, both of
+-- so many bits
+abbrev pub amo_in : AmoOp → ℕ → ℕ → ℕ → ℕ
+amo_in amo.Swap bits old b = b
+amo_in amo.Add bits old b = (old + b) % 2 ^ bits
+amo_in amo.Xor bits old b = bit_xor old b
+amo_in amo.And bits old b = bit_and old b
+amo_in amo.Or bits old b = bit_or old b
+amo_in amo.Min bits old b = if int_le (signed bits old) (signed bits b) then old else b
+amo_in amo.Max bits old b = if int_le (signed bits old) (signed bits b) then b else old
+amo_in amo.Minu bits old b = min old b
+amo_in amo.Maxu bits old b = max old b
+
+-- on 64 bits, or on the low 32 bits of both
+abbrev pub amo_of : AmoOp → Bool → ℕ → ℕ → ℕ
+amo_of op wide old b = if wide then amo_in op 64 old b else amo_in op 32 (low_word old) (low_word b)
 
 -- "Conditional Branches": whether the branch is taken
 abbrev pub taken_of : Cond → ℕ → ℕ → Bool

@@ -4,5 +4,5 @@
 mod arithmetic;
 mod op;
 
-pub use arithmetic::{alu, taken};
-pub use op::{AluOp, Cond};
+pub use arithmetic::{alu, amo, taken};
+pub use op::{AluOp, AmoOp, Cond};

@@ -4,5 +4,5 @@
 mod finishing;
 mod planning;
 
-pub use finishing::finish;
+pub use finishing::{finish, finish_call};
 pub use planning::plan;

@@ -1,20 +1,146 @@
 //! What an instruction wants.
-ghost use Rattle.std.specs.Prelude.{◌≡◌};
-ghost use Rattle.rv_inst.specs.Rows.{IsSpelled};
-ghost use Rattle.rv_inst.specs.Meanings.{want_of};
+ghost use Rattle.std.specs.Prelude.{◌≡◌, ◌<◌};
+ghost use Rattle.rv_inst.specs.Spelling.{IsSpelled};
+ghost use Rattle.rv_inst.specs.Meanings as meanings;
+ghost use Rattle.rv_inst.specs.Meanings.{want_of, to_jump, aligned};
 
+use rv_alu::taken;
 use rv_inst::{Arch, Inst, Want};
 
 /// What the instruction wants of memory or of the kernel, asked before it does anything.
 ///
-/// RISC-V unprivileged ISA, "RV64I Base Integer Instruction Set".
+/// A jump to a target that is no multiple of 4, and an access at an address that is no multiple of its
+/// width, want a trap.
+///
+/// RISC-V unprivileged ISA, "RV64I Base Integer Instruction Set" and "A" Extension for Atomic
+/// Instructions; privileged ISA, "Machine Cause Register".
+#[tactic(auto, using(crate::proofs::WidthLemmas::widths))]
 pub fn plan(arch: &Arch, inst: Inst) -> Want
     requires { IsSpelled inst }
     ensures { result ≡ want_of inst arch.now }
 {
-    let _arch = arch;
     match inst {
-        Inst::AluImm { .. } => Want::Nothing,
+        Inst::Jal { off, .. } => jump(at_offset(arch.pc, off)),
+        Inst::Jalr { rs1, off, .. } => jump(jalr_target(arch.x[rs1 as usize], off)),
+        Inst::Branch {
+            cond,
+            rs1,
+            rs2,
+            off,
+        } => {
+            if taken(cond, arch.x[rs1 as usize], arch.x[rs2 as usize]) {
+                jump(at_offset(arch.pc, off))
+            } else {
+                Want::Nothing
+            }
+        }
+        Inst::Load {
+            width,
+            rs1,
+            off,
+            ..
+        } => {
+            let va = at_offset(arch.x[rs1 as usize], off);
+            unless_misaligned(va, width, 4, Want::Look { va, width })
+        }
+        Inst::Store {
+            width,
+            rs1,
+            rs2,
+            off,
+        } => {
+            let va = at_offset(arch.x[rs1 as usize], off);
+            let value = arch.x[rs2 as usize];
+            unless_misaligned(va, width, 6, Want::Put { va, width, value })
+        }
+        Inst::Amo {
+            op,
+            wide,
+            rs1,
+            rs2,
+            ..
+        } => {
+            let va = arch.x[rs1 as usize];
+            let width = atomic_width(wide);
+            let value = arch.x[rs2 as usize];
+            unless_misaligned(
+                va,
+                width,
+                6,
+                Want::Swap {
+                    va,
+                    width,
+                    op,
+                    value,
+                },
+            )
+        }
+        Inst::Lr { wide, rs1, .. } => {
+            let va = arch.x[rs1 as usize];
+            let width = atomic_width(wide);
+            unless_misaligned(va, width, 4, Want::Reserve { va, width })
+        }
+        Inst::Sc { wide, rs1, rs2, .. } => {
+            let va = arch.x[rs1 as usize];
+            let width = atomic_width(wide);
+            let value = arch.x[rs2 as usize];
+            unless_misaligned(va, width, 6, Want::PutIf { va, width, value })
+        }
+        Inst::Lui { .. } | Inst::Auipc { .. } => Want::Nothing,
+        Inst::AluImm { .. } | Inst::Alu { .. } => Want::Nothing,
+        Inst::Fence { .. } | Inst::FenceI { .. } => Want::Nothing,
         Inst::Ecall => Want::Call,
+        Inst::Ebreak => Want::Trap {
+            cause: 3,
+            value: arch.pc,
+        },
+    }
+}
+
+// The address at an offset, modulo 2^64.
+pub fn at_offset(base: u64, off: i64) -> u64
+    ensures { result ≡ meanings.at_offset base off }
+{
+    base.wrapping_add(off.cast_unsigned())
+}
+
+// The target of a jalr, with bit 0 cleared.
+pub fn jalr_target(base: u64, off: i64) -> u64
+    ensures { result ≡ meanings.jalr_target base off }
+{
+    let target = at_offset(base, off);
+    target - target % 2
+}
+
+// The bytes of an atomic operation.
+pub fn atomic_width(wide: bool) -> u8
+    ensures { result ≡ meanings.atomic_width wide }
+{
+    if wide { 8 } else { 4 }
+}
+
+// A jump to this target.
+fn jump(target: u64) -> Want
+    ensures { result ≡ to_jump target }
+{
+    if target % 4 == 0 {
+        Want::Nothing
+    } else {
+        Want::Trap {
+            cause: 0,
+            value: target,
+        }
+    }
+}
+
+// What an access wants, or its trap.
+fn unless_misaligned(va: u64, width: u8, cause: u8, want: Want) -> Want
+    requires { 0 < width }
+    ensures { result ≡ aligned va width cause want }
+{
+    if va % u64::from(width) == 0 {
+        want
+    } else {
+        Want::Trap { cause, value: va }
     }
 }

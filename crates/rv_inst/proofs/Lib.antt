@@ -1,2 +1,4 @@
-pub mod Spelling
-pub mod Words
+pub mod RowLemmas
+pub mod RangeLemmas
+pub mod FormatLemmas
+pub mod SpellingLemmas

@@ -1,24 +1,62 @@
 -- The fields of a 32-bit instruction (RISC-V unprivileged ISA, "Base Instruction Formats" and
 -- "Immediate Encoding Variants").
-use Rattle.std.specs.Prelude.{ℕ, ◌/◌, ◌%◌, ◌^◌, ℤ}
+use Rattle.std.specs.Prelude.{ℕ, ◌+◌, ◌-◌, ◌*◌, ◌/◌, ◌%◌, ◌^◌, ◌==◌, ℤ, Bool}
 use Rattle.rv_alu.specs.Arithmetic.{signed}
 
--- bits 6..0
+-- the bits from the highest down to the lowest of a word
+abbrev pub bits : ℕ → ℕ → ℕ → ℕ
+bits high low word = word / 2 ^ low % 2 ^ (high + 1 - low)
+
 abbrev pub opcode : ℕ → ℕ
-opcode word = word % 2 ^ 7
+opcode word = bits 6 0 word
 
--- bits 11..7
 abbrev pub rd_in : ℕ → ℕ
-rd_in word = word / 2 ^ 7 % 2 ^ 5
+rd_in word = bits 11 7 word
 
--- bits 14..12
 abbrev pub funct3 : ℕ → ℕ
-funct3 word = word / 2 ^ 12 % 2 ^ 3
+funct3 word = bits 14 12 word
 
--- bits 19..15
 abbrev pub rs1_in : ℕ → ℕ
-rs1_in word = word / 2 ^ 15 % 2 ^ 5
+rs1_in word = bits 19 15 word
 
--- the I-immediate: bits 31..20, sign-extended
+abbrev pub rs2_in : ℕ → ℕ
+rs2_in word = bits 24 20 word
+
+abbrev pub funct7 : ℕ → ℕ
+funct7 word = bits 31 25 word
+
+-- of an atomic instruction: funct7 is funct5, aq and rl
+abbrev pub funct5 : ℕ → ℕ
+funct5 word = bits 31 27 word
+
+abbrev pub aq_in : ℕ → Bool
+aq_in word = bits 26 26 word == 1
+
+abbrev pub rl_in : ℕ → Bool
+rl_in word = bits 25 25 word == 1
+
+-- the immediates of the formats I, S, B, U and J, sign-extended
 abbrev pub imm_i : ℕ → ℤ
-imm_i word = signed 12 (word / 2 ^ 20 % 2 ^ 12)
+imm_i word = signed 12 (bits 31 20 word)
+
+abbrev pub imm_s : ℕ → ℤ
+imm_s word = signed 12 (bits 31 25 word * 2 ^ 5 + bits 11 7 word)
+
+abbrev pub imm_b : ℕ → ℤ
+imm_b word = signed 13 (bits 31 31 word * 2 ^ 12 + bits 7 7 word * 2 ^ 11 + bits 30 25 word * 2 ^ 5 + bits 11 8 word * 2 ^ 1)
+
+abbrev pub imm_u : ℕ → ℤ
+imm_u word = signed 32 (bits 31 12 word * 2 ^ 12)
+
+abbrev pub imm_j : ℕ → ℤ
+imm_j word = signed 21 (bits 31 31 word * 2 ^ 20 + bits 19 12 word * 2 ^ 12 + bits 20 20 word * 2 ^ 11 + bits 30 21 word * 2 ^ 1)
+
+-- the amounts of shifts of 64 and of 32 bits, and what stands above the first
+abbrev pub amount_64 : ℕ → ℕ
+amount_64 word = bits 25 20 word
+
+abbrev pub funct6 : ℕ → ℕ
+funct6 word = bits 31 26 word
+
+abbrev pub amount_32 : ℕ → ℕ
+amount_32 word = bits 24 20 word

@@ -5,6 +5,8 @@ mod arch;
 mod decoding;
 mod inst;
 mod laws;
+#[cfg(test)]
+mod tests;
 mod want;
 
 pub use arch::Arch;

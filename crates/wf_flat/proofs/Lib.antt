@@ -6,3 +6,4 @@ pub mod DeterminedLemmas
 pub mod HartLemmas
 pub mod UnbuiltLemmas
 pub mod TestLemmas
+pub mod FetchLemmas

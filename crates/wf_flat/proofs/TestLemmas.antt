@@ -1,8 +1,11 @@
 -- The images of the tests.
-use Rattle.std.proofs.Common.{◌≡◌, ◌<◌, ◌%◌, ◌/◌, ◌++◌, ℕ, List, [], ◌∷◌, nat_eq, refl, arith}
+use Rattle.std.proofs.Common.{◌≡◌, ◌<◌, ◌%◌, ◌/◌, ◌++◌, ℕ, pos, Some, List, [], ◌∷◌, nat_eq, refl, arith}
 use Rattle.std.specs.Prelude.{All, Contains}
 use Rattle.std.specs.List.{IsDistinct}
 use Rattle.std.proofs.lemmas.List.Elements.{All-nil, All-cons}
+use Rattle.rv_alu.specs.declared.op.AluOp.TheVariants.{Add}
+use Rattle.rv_inst.specs.declared.inst.Inst.TheVariants.{AluImm}
+use Rattle.rv_inst.specs.Decoding.{inst_of, inst_by}
 use Rattle.wf_outside.specs.Pages.{PageValue, DataPageValue}
 use Rattle.wf_outside.specs.Images.{IsImage, text_numbers, data_numbers}
 
@@ -37,3 +40,8 @@ unsorted_is text pages t d =
     (All-cons (λ n. n < 0x3E00000) 0x12 (0x10 ∷ []) (omega arith) (All-cons (λ n. n < 0x3E00000) 0x10 [] (omega arith) (All-nil (λ n. n < 0x3E00000))))
     (All-cons (λ n. n < 0x3E00000) 0x20 (0x11 ∷ []) (omega arith) (All-cons (λ n. n < 0x3E00000) 0x11 [] (omega arith) (All-nil (λ n. n < 0x3E00000))))
     refl (0, omega arith, refl)
+
+-- the instruction of the tests' word
+pub addi_is : inst_of 0x700513 ≡ Some (AluImm Add 10 0 (pos 7))
+unfolding inst_of inst_by
+addi_is = refl

@@ -1,14 +1,13 @@
 -- Where a hart meets what is not built, it has no unit.
-use Rattle.std.proofs.Common.{◌≡◌, ◌≢◌, ℕ, List, [], ◌∷◌, Option, Some, None, Bool, true, false, refl, sym, subst, ap, ◌∙◌, arith}
+use Rattle.std.proofs.Common.{◌≡◌, ◌≢◌, ◌⊎◌, inl, inr, ℕ, List, [], ◌∷◌, Option, Some, None, Bool, true, false, refl, sym, subst, ap, ◌∙◌, arith}
 use Rattle.std.specs.Prelude.{MatchBool, slice_get, slice_index, option_and_then}
-use Rattle.std.specs.Option.{option_map}
 use Rattle.std.proofs.lemmas.Bool.Decides.{nat_tests}
 use Rattle.rv_inst.specs.declared.inst.Inst.{Inst}
-use Rattle.rv_inst.specs.declared.inst.Inst.TheVariants.{AluImm, Ecall}
-use Rattle.rv_inst.specs.declared.want.Want.TheVariants.{Nothing, Call as WantCall}
+use Rattle.rv_inst.specs.declared.inst.Inst.TheVariants.{Lui, Auipc, Jal, Jalr, Branch, Load, Store, AluImm, Alu, Amo, Lr, Sc, Fence, FenceI, Ecall, Ebreak}
+use Rattle.rv_inst.specs.declared.want.Want.TheVariants.{Nothing}
 use Rattle.rv_inst.specs.Arch.{ArchState}
-use Rattle.rv_inst.specs.Rows.{inst_of}
-use Rattle.rv_inst.specs.Meanings.{want_of}
+use Rattle.rv_inst.specs.Decoding.{inst_of}
+use Rattle.wf_outside.specs.Pages.{PageValue}
 use Rattle.wf_flat.specs.declared.event.Actor.{Actor}
 use Rattle.wf_flat.specs.declared.event.Actor.TheVariants.{Hart}
 use Rattle.wf_flat.specs.declared.event.Event.{Event}
@@ -17,14 +16,15 @@ use Rattle.wf_flat.specs.declared.event.Entry.{Entry}
 use Rattle.wf_flat.specs.declared.state.Life.TheVariants.{Running}
 use Rattle.wf_flat.specs.State.{FlatState, HartState}
 use Rattle.wf_flat.specs.Memory.{word_at}
-use Rattle.wf_flat.specs.Steps.{MayAct, want_in, text_of, fetched_with, change_hart}
-use Rattle.wf_flat.specs.Calls.{Settling, Todo, IsNext, todo_left, todo_by}
-use Rattle.wf_flat.specs.Legal.{Moment, Allows, IsLegal, after, at_rest, is_inside}
+use Rattle.wf_flat.specs.Steps.{MayAct, Ask, Called, want_in, built_want, ask_of, ask_of_word, text_of, fetched_with, change_hart, is_inside}
+use Rattle.wf_flat.specs.Built.{is_built_call}
+use Rattle.wf_flat.specs.Calls.{Settling, Todo, IsNext, todo_left, todo_by, todo_of, todo_of_call}
+use Rattle.wf_flat.specs.Legal.{Moment, Allows, IsLegal, after, at_rest}
 use Rattle.wf_flat.specs.Follows.{IsUnit, ends_unit}
 use Rattle.wf_flat.specs.Unbuilt.{IsUnbuiltInst, IsUnbuiltWord}
 use Rattle.wf_flat.specs.Laws.{UnbuiltHasNoUnit}
 use Rattle.wf_flat.proofs.HartLemmas.{changed_get}
-use Rattle.wf_flat.proofs.DeterminedLemmas.{some_and, no_want}
+use Rattle.wf_flat.proofs.DeterminedLemmas.{some_and, no_want, no_ask}
 
 -- no event is allowed, so there is no unit
 stuck : (m : Moment) (h : ℕ) → ((e : Event) → Allows m (Hart h) e → ⊥) → (unit : List Entry) → IsUnit h unit → IsLegal m unit → ⊥
@@ -51,37 +51,82 @@ outside : (m : Moment) (h : ℕ) (e : Event) → m.flat.inside ≡ None → Allo
 outside m h e rest a =
     subst (λ (b : Bool). MatchBool b (IsNext (todo_left m.flat (Hart h) m.call) e) (MayAct m.flat (Hart h) e)) (ap (λ (i : Option Actor). is_inside i (Hart h)) rest) a
 
-todo_none : (hart : HartState) → slice_index hart.arch.x 17 ≢ 0 → todo_by hart ≡ None
-todo_none hart h = grind (arith, nat_tests)
+call_none : (number first pc : ℕ) → is_built_call number ≡ false → todo_of_call number first pc ≡ None
+call_none number first pc e = grind (arith, nat_tests)
 
 self_inside : (h : ℕ) → is_inside (Some (Hart h)) (Hart h) ≡ true
 self_inside h = grind (arith, nat_tests)
 
--- a call that is not built does nothing behind its Enter
-no_call : (s : FlatState) (h : ℕ) (hart : HartState) → slice_get s.harts h ≡ Some hart → slice_index hart.arch.x 17 ≢ 0
-    → (unit : List Entry) → IsUnit h unit → IsLegal (record { flat = record s { inside = Some (Hart h) }; call = Some Settling }) unit → ⊥
-no_call s h hart is number unit u l =
-    let m : Moment = record { flat = record s { inside = Some (Hart h) }; call = Some Settling } in
-    let none : todo_left m.flat (Hart h) m.call ≡ None = ap (option_and_then todo_by) is ∙ todo_none hart number in
-    stuck m h (nothing_inside m h (self_inside h) none) unit u l
+-- the word is not built, and is not a call that is
+not_built_by : (inst : Inst) (hart : HartState) → IsUnbuiltInst hart (Some inst) → (built_want inst hart.arch ≡ None) ⊎ ((inst ≡ Ecall) × (is_built_call (slice_index hart.arch.x 17) ≡ false))
+not_built_by Ecall hart p = inr (refl, p)
+not_built_by (Lui rd imm) hart p = absurd (cc)
+not_built_by (Auipc rd imm) hart p = absurd (cc)
+not_built_by (Jal rd off) hart p = absurd (cc)
+not_built_by (Jalr rd rs1 off) hart p = absurd (cc)
+not_built_by (Branch cond rs1 rs2 off) hart p = absurd (cc)
+not_built_by (AluImm op rd rs1 imm) hart p = absurd (cc)
+not_built_by (Fence raw) hart p = absurd (cc)
+not_built_by (FenceI raw) hart p = absurd (cc)
+not_built_by Ebreak hart p = absurd (cc)
+not_built_by (Load width sign rd rs1 off) hart p = inl refl
+not_built_by (Store width rs1 rs2 off) hart p = inl refl
+not_built_by (Amo op wide aq rl rd rs1 rs2) hart p = inl refl
+not_built_by (Lr wide aq rl rd rs1) hart p = inl refl
+not_built_by (Sc wide aq rl rd rs1 rs2) hart p = inl refl
+not_built_by (Alu op rd rs1 rs2) hart p = inl (rw p refl)
 
-wants : (hart : HartState) (word : ℕ) → hart.fetched ≡ Some word → want_in hart ≡ option_map (λ (inst : Inst). want_of inst hart.arch) (inst_of word)
+-- in such a try the hart wants nothing that the machine runs, and asks for a call that is not built at most
+want_by : (o : Option Inst) (hart : HartState) → IsUnbuiltInst hart o → option_and_then (λ (inst : Inst). built_want inst hart.arch) o ≡ Some Nothing → ⊥
+want_by None hart p e = p
+want_by (Some inst) hart p e = elim (not_built_by inst hart p) [
+  | inl none ↦ absurd (cc)
+  | inr call ↦ absurd (let same : built_want inst hart.arch ≡ built_want Ecall hart.arch = ap (λ (i : Inst). built_want i hart.arch) call.0 in cc)
+]
+
+ask_by_word : (o : Option Inst) (hart : HartState) (word : ℕ) → IsUnbuiltInst hart o → (ask_of_word hart.arch word o ≡ None) ⊎ ((ask_of_word hart.arch word o ≡ Some Called) × (is_built_call (slice_index hart.arch.x 17) ≡ false))
+ask_by_word None hart word p = absurd p
+ask_by_word (Some inst) hart word p = elim (not_built_by inst hart p) [
+  | inl none ↦ inl (rw none refl)
+  | inr call ↦ inr (rw call.0 refl, call.1)
+]
+
+asks : (text : List PageValue) (hart : HartState) (word : ℕ) → hart.fetched ≡ Some word → ask_of text hart ≡ ask_of_word hart.arch word (inst_of word)
+asks text hart word e = rw e refl
+
+wants : (hart : HartState) (word : ℕ) → hart.fetched ≡ Some word → want_in hart ≡ option_and_then (λ (inst : Inst). built_want inst hart.arch) (inst_of word)
 wants hart word e = rw e refl
 
-not_quiet : (o : Option Inst) (hart : HartState) → IsUnbuiltInst hart o → option_map (λ (inst : Inst). want_of inst hart.arch) o ≡ Some Nothing → ⊥
-not_quiet None hart p e = absurd (cc)
-not_quiet (Some (AluImm op rd rs1 imm)) hart p e = p
-not_quiet (Some Ecall) hart p e = absurd (cc)
-
-not_exit : (o : Option Inst) (hart : HartState) → IsUnbuiltInst hart o → option_map (λ (inst : Inst). want_of inst hart.arch) o ≡ Some WantCall → slice_index hart.arch.x 17 ≢ 0
-not_exit None hart p e = absurd (cc)
-not_exit (Some (AluImm op rd rs1 imm)) hart p e = absurd p
-not_exit (Some Ecall) hart p e = p
-
 same_unbuilt : (o : Option Inst) (one other : HartState) → one.arch ≡ other.arch → IsUnbuiltInst one o → IsUnbuiltInst other o
-same_unbuilt None one other e p = tt
-same_unbuilt (Some (AluImm op rd rs1 imm)) one other e p = p
-same_unbuilt (Some Ecall) one other e p = subst (λ (a : ArchState). slice_index a.x 17 ≢ 0) e p
+same_unbuilt o one other e p = by_inst o p
+  where
+    by_inst : (o : Option Inst) → IsUnbuiltInst one o → IsUnbuiltInst other o
+    by_inst None p = p
+    by_inst (Some Ecall) p = subst (λ (a : ArchState). is_built_call (slice_index a.x 17) ≡ false) e p
+    by_inst (Some (Lui rd imm)) p = p
+    by_inst (Some (Auipc rd imm)) p = p
+    by_inst (Some (Jal rd off)) p = p
+    by_inst (Some (Jalr rd rs1 off)) p = p
+    by_inst (Some (Branch cond rs1 rs2 off)) p = p
+    by_inst (Some (Load width sign rd rs1 off)) p = p
+    by_inst (Some (Store width rs1 rs2 off)) p = p
+    by_inst (Some (AluImm op rd rs1 imm)) p = p
+    by_inst (Some (Alu op rd rs1 rs2)) p = p
+    by_inst (Some (Amo op wide aq rl rd rs1 rs2)) p = p
+    by_inst (Some (Lr wide aq rl rd rs1)) p = p
+    by_inst (Some (Sc wide aq rl rd rs1 rs2)) p = p
+    by_inst (Some (Fence raw)) p = p
+    by_inst (Some (FenceI raw)) p = p
+    by_inst (Some Ebreak) p = p
+
+-- a call that is not built does nothing behind its Enter
+no_call : (s : FlatState) (h : ℕ) (hart : HartState) → slice_get s.harts h ≡ Some hart → ask_of (text_of s hart.generation) hart ≡ Some Called → is_built_call (slice_index hart.arch.x 17) ≡ false
+    → (unit : List Entry) → IsUnit h unit → IsLegal (record { flat = record s { inside = Some (Hart h) }; call = Some Settling }) unit → ⊥
+no_call s h hart is asked number unit u l =
+    let m : Moment = record { flat = record s { inside = Some (Hart h) }; call = Some Settling } in
+    let todo : todo_by m.flat hart ≡ None = ap (option_and_then (λ (ask : Ask). todo_of ask hart)) asked ∙ call_none (slice_index hart.arch.x 17) (slice_index hart.arch.x 10) hart.arch.pc number in
+    let none : todo_left m.flat (Hart h) m.call ≡ None = ap (option_and_then (λ (hart : HartState). todo_by m.flat hart)) is ∙ todo in
+    stuck m h (nothing_inside m h (self_inside h) none) unit u l
 
 -- what the events that a hart may make in such a try lead to
 in_try : (s : FlatState) (h word : ℕ) (hart : HartState) → s.inside ≡ None → slice_get s.harts h ≡ Some hart → hart.fetched ≡ Some word → hart.life ≡ Running → IsUnbuiltInst hart (inst_of word)
@@ -94,12 +139,17 @@ in_try s h word hart rest is fetched runs p (End pc) q =
     let w = some_and (slice_get s.harts h) _ q in
     let same : w.0 ≡ hart = cc in
     let want : want_in hart ≡ Some Nothing = subst (λ (x : HartState). want_in x ≡ Some Nothing) same w.2.1.0 in
-    absurd (not_quiet (inst_of word) hart p (sym (wants hart word fetched) ∙ want))
+    absurd (want_by (inst_of word) hart p (sym (wants hart word fetched) ∙ want))
 in_try s h word hart rest is fetched runs p Enter q =
     let w = some_and (slice_get s.harts h) _ q in
     let same : w.0 ≡ hart = cc in
-    let want : want_in hart ≡ Some WantCall = subst (λ (x : HartState). want_in x ≡ Some WantCall) same w.2.1.1 in
-    (refl, no_call s h hart is (not_exit (inst_of word) hart p (sym (wants hart word fetched) ∙ want)))
+    let text : List PageValue = text_of s hart.generation in
+    let asked : ask_of text hart ≢ None = subst (λ (x : HartState). ask_of (text_of s x.generation) x ≢ None) same w.2.1.1 in
+    let ask = asks text hart word fetched in
+    elim (ask_by_word (inst_of word) hart word p) [
+      | inl none ↦ absurd (asked (ask ∙ none))
+      | inr call ↦ (refl, no_call s h hart is (ask ∙ call.0) call.1)
+    ]
 in_try s h word hart rest is fetched runs p Idle q =
     let w = some_and (slice_get s.harts h) _ q in
     let same : w.0 ≡ hart = cc in
@@ -108,6 +158,11 @@ in_try s h word hart rest is fetched runs p e q = absurd q
 
 after_fetch : (s : FlatState) (h pc word : ℕ) → s.inside ≡ None → after (at_rest s) (Hart h) (Fetch pc word) ≡ at_rest (change_hart s h (fetched_with word))
 after_fetch s h pc word rest = rw rest refl
+
+-- a hart whose next word is not built asks for nothing before it has fetched it
+asked_at_text : (s : FlatState) (hart : HartState) (o : Option ℕ) → word_at (text_of s hart.generation) hart.arch.pc ≡ o → hart.fetched ≡ None → IsUnbuiltWord hart o → ask_of (text_of s hart.generation) hart ≢ None → ⊥
+asked_at_text s hart None read none p asked = p
+asked_at_text s hart (Some word) read none p asked = asked (no_ask (text_of s hart.generation) hart word none read)
 
 -- at the start of a try
 at_start : (s : FlatState) (h : ℕ) (hart : HartState) → s.inside ≡ None → slice_get s.harts h ≡ Some hart → hart.life ≡ Running → hart.fetched ≡ None → IsUnbuiltWord hart (word_at (text_of s hart.generation) hart.arch.pc)
@@ -130,7 +185,8 @@ at_start s h hart rest is runs none p (End at) q =
 at_start s h hart rest is runs none p Enter q =
     let w = some_and (slice_get s.harts h) _ q in
     let same : w.0 ≡ hart = cc in
-    absurd (no_want w.0 WantCall (ap (λ (x : HartState). x.fetched) same ∙ none) w.2.1.1)
+    let asked : ask_of (text_of s hart.generation) hart ≢ None = subst (λ (x : HartState). ask_of (text_of s x.generation) x ≢ None) same w.2.1.1 in
+    absurd (asked_at_text s hart (word_at (text_of s hart.generation) hart.arch.pc) refl none p asked)
 at_start s h hart rest is runs none p Idle q =
     let w = some_and (slice_get s.harts h) _ q in
     let same : w.0 ≡ hart = cc in

@@ -1,10 +1,13 @@
 -- The call that is open in the kernel: what may still come of it.
-use Rattle.std.specs.Prelude.{ℕ, List, [], ◌∷◌, Bool, true, false, Option, Some, None, ◌≡◌, ◌==◌, if◌then◌else◌, slice_get, slice_index, option_and_then}
+use Rattle.std.specs.Prelude.{ℕ, List, [], ◌∷◌, Bool, true, false, Option, Some, None, ◌≡◌, ◌==◌, ◌%◌, if◌then◌else◌, nat_lt, slice_get, slice_index, option_and_then}
+use Rattle.rv_inst.specs.Meanings.{next_pc}
+use Rattle.wf_outside.specs.declared.refusal.Refusal.TheVariants.{Number}
 use Rattle.wf_flat.specs.declared.event.Actor.{Actor}
 use Rattle.wf_flat.specs.declared.event.Actor.TheVariants.{Hart}
 use Rattle.wf_flat.specs.declared.event.Event.{Event}
-use Rattle.wf_flat.specs.declared.event.Event.TheVariants.{Exit}
+use Rattle.wf_flat.specs.declared.event.Event.TheVariants.{End, Exit, Trap, Out, Refused}
 use Rattle.wf_flat.specs.State.{FlatState, HartState}
+use Rattle.wf_flat.specs.Steps.{Ask, Called, Stopped, ask_of, text_of}
 
 -- one thing that a call has still to do
 pub data Todo : Type 0 where
@@ -18,17 +21,29 @@ pub data Call : Type 0 where
   -- it has these things still to do, in this order
   Doing : List Todo → Call
 
--- what a call of a hart has to do, by its number in a7 and its first argument in a0; none where the call is not built yet
-abbrev pub todo_of : ℕ → ℕ → Option (List Todo)
-todo_of number first = if number == 0 then Some (Exactly (Exit first) ∷ []) else None
+-- What a call of a hart has to do, by its number, its first argument and its pc: 0 exits, 1 puts the low
+-- byte of the argument, 4 answers the own generation, and no call has a number above 8. The others are not
+-- built yet.
+abbrev pub todo_of_call : ℕ → ℕ → ℕ → Option (List Todo)
+todo_of_call number first pc =
+    if number == 0 then Some (Exactly (Exit first) ∷ [])
+    else if number == 1 then Some (Exactly (Out (first % 256)) ∷ Exactly (End (next_pc pc)) ∷ [])
+    else if number == 4 then Some (Exactly (End (next_pc pc)) ∷ [])
+    else if nat_lt 8 number then Some (Exactly (Refused (Number number)) ∷ Exactly (End (next_pc pc)) ∷ [])
+    else None
 
--- the same by its registers: a7 is x17, and a0 is x10 (RISC-V ELF psABI, "Integer Register Convention")
-abbrev pub todo_by : HartState → Option (List Todo)
-todo_by hart = todo_of (slice_index hart.arch.x 17) (slice_index hart.arch.x 10)
+-- what is done about an ask; the number of a call is in a7, which is x17, and its first argument in a0, which
+-- is x10 (RISC-V ELF psABI, "Integer Register Convention")
+abbrev pub todo_of : Ask → HartState → Option (List Todo)
+todo_of Called hart = todo_of_call (slice_index hart.arch.x 17) (slice_index hart.arch.x 10) hart.arch.pc
+todo_of (Stopped cause value) hart = Some (Exactly (Trap cause value) ∷ [])
+
+abbrev pub todo_by : FlatState → HartState → Option (List Todo)
+todo_by s hart = option_and_then (λ ask. todo_of ask hart) (ask_of (text_of s hart.generation) hart)
 
 -- what an actor's call in hand has still to do
 abbrev pub todo_left : FlatState → Actor → Option Call → Option (List Todo)
-todo_left s (Hart h) (Some Settling) = option_and_then todo_by (slice_get s.harts h)
+todo_left s (Hart h) (Some Settling) = option_and_then (λ hart. todo_by s hart) (slice_get s.harts h)
 todo_left s actor (Some (Doing todo)) = Some todo
 todo_left s actor call = None
 
@@ -39,7 +54,9 @@ IsNext todo event = ⊥
 
 -- the event closes its actor's call, and leaves nobody inside
 abbrev pub closes_call : Event → Bool
+closes_call (End pc) = true
 closes_call (Exit code) = true
+closes_call (Trap cause value) = true
 closes_call event = false
 
 -- what is in hand behind the next thing

@@ -1,12 +1,12 @@
 -- Journals that the machine allows, and the state after them.
-use Rattle.std.specs.Prelude.{List, [], ◌∷◌, Bool, true, false, Option, Some, None, ◌==◌, if◌then◌else◌, MatchBool}
+use Rattle.std.specs.Prelude.{List, [], ◌∷◌, Option, Some, None, if◌then◌else◌, MatchBool}
 use Rattle.wf_flat.specs.declared.event.Actor.{Actor}
-use Rattle.wf_flat.specs.declared.event.Actor.TheVariants.{Hart, Kernel}
+use Rattle.wf_flat.specs.declared.event.Actor.TheVariants.{Kernel}
 use Rattle.wf_flat.specs.declared.event.Event.{Event}
 use Rattle.wf_flat.specs.declared.event.Event.TheVariants.{Enter, Idle}
 use Rattle.wf_flat.specs.declared.event.Entry.{Entry}
 use Rattle.wf_flat.specs.State.{FlatState}
-use Rattle.wf_flat.specs.Steps.{MayAct, flat_after}
+use Rattle.wf_flat.specs.Steps.{MayAct, flat_after, is_inside}
 use Rattle.wf_flat.specs.Calls.{Call, Settling, todo_left, IsNext, closes_call, call_behind}
 
 -- the machine between two entries: its state, and the call that is open in the kernel
@@ -17,16 +17,6 @@ pub record Moment : Type 0 where
 -- no call is open
 abbrev pub at_rest : FlatState → Moment
 at_rest flat = record { flat = flat; call = None }
-
--- the actor is the one inside the kernel
-abbrev pub is_same : Actor → Actor → Bool
-is_same (Hart h) (Hart other) = h == other
-is_same Kernel Kernel = true
-is_same one other = false
-
-abbrev pub is_inside : Option Actor → Actor → Bool
-is_inside None actor = false
-is_inside (Some inside) actor = is_same inside actor
 
 -- An entry is allowed: of the actor that is inside, where its call goes on with it; of any other, where it
 -- may act so outside. The kernel's own actor may idle anywhere.

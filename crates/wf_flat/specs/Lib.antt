@@ -3,6 +3,8 @@ pub mod State
 pub mod Counts
 pub mod Boot
 pub mod Memory
+pub mod Built
+pub mod Refusals
 pub mod Steps
 pub mod Calls
 pub mod Legal

@@ -1,22 +1,23 @@
 -- What is not built yet, and is met where a hart is to begin a try.
-use Rattle.std.specs.Prelude.{ℕ, Option, Some, None, ◌≡◌, ◌≢◌, slice_index}
+use Rattle.std.specs.Prelude.{ℕ, false, Option, Some, None, ◌≡◌, slice_index}
 use Rattle.rv_inst.specs.declared.inst.Inst.{Inst}
-use Rattle.rv_inst.specs.declared.inst.Inst.TheVariants.{AluImm, Ecall}
-use Rattle.rv_inst.specs.Rows.{inst_of}
+use Rattle.rv_inst.specs.declared.inst.Inst.TheVariants.{Ecall}
+use Rattle.rv_inst.specs.Decoding.{inst_of}
 use Rattle.wf_flat.specs.declared.state.Life.TheVariants.{Running}
 use Rattle.wf_flat.specs.State.{FlatState, HartState}
 use Rattle.wf_flat.specs.Memory.{word_at}
+use Rattle.wf_flat.specs.Built.{is_built, is_built_call}
 use Rattle.wf_flat.specs.Steps.{OfHart, text_of}
 
--- the word is neither an addi nor an ecall, or an ecall whose a7 is not 0
+-- the instruction is a load, a store, or one of M or A; or it is a call that is not built
 abbrev pub IsUnbuiltInst : HartState → Option Inst → Type 0
-IsUnbuiltInst hart None = Unit {0}
-IsUnbuiltInst hart (Some (AluImm op rd rs1 imm)) = ⊥
-IsUnbuiltInst hart (Some Ecall) = slice_index hart.arch.x 17 ≢ 0
+IsUnbuiltInst hart None = ⊥
+IsUnbuiltInst hart (Some Ecall) = is_built_call (slice_index hart.arch.x 17) ≡ false
+IsUnbuiltInst hart (Some inst) = is_built inst ≡ false
 
--- the page of the pc is no text, or the word there is not built
+-- the word at the pc is not built; where there is none, or none that is an instruction, the hart traps
 abbrev pub IsUnbuiltWord : HartState → Option ℕ → Type 0
-IsUnbuiltWord hart None = Unit {0}
+IsUnbuiltWord hart None = ⊥
 IsUnbuiltWord hart (Some word) = IsUnbuiltInst hart (inst_of word)
 
 -- the hart runs, is to begin a try at this pc, and what it is to do there is not built

@@ -14,5 +14,5 @@ mod text;
 
 pub use booting::{BootFault, boot};
 pub use event::{Actor, Entry, Event, WaitFor};
-pub use laws::{harts_are_determined, unbuilt_has_no_unit};
+pub use laws::{fetches_are_text, harts_are_determined, unbuilt_has_no_unit};
 pub use state::{Flat, FlatHart, FlatPage, Gen, Life, Reservation, Stage};

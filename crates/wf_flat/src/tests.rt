@@ -6,7 +6,7 @@ use crate::{Actor, BootFault, Flat, FlatHart, Life, boot};
 use rv_inst::Arch;
 use std::alloc::Global;
 use std::test::Fail;
-use wf_outside::{DataPage, Image, Limits, Memory, Page};
+use wf_outside::{DataPage, Image, Limits, Memory, Page, Refusal};
 
 // 512 words: the first, the last, and zeros between.
 fn words(alloc: Global, first: u64, last: u64) -> Result<Vec<u64>, Memory>
@@ -173,6 +173,7 @@ fn pages_are_sorted_and_text_is_read(rt: HostRuntime) -> Result<(), Fail> {
 }
 
 // The pc and registers after an addi of x10, x0 and 7.
+#[tactic(auto, using(crate::proofs::TestLemmas::addi_is))]
 fn after_addi(hart: &FlatHart) -> Arch
     requires { hart.now.fetched ≡ Some 0x700513 }
     ensures { result ≡ arch_after hart.now }
@@ -209,5 +210,29 @@ fn a_hart_adds_and_exits(rt: HostRuntime) -> Result<(), Fail> {
     assert_eq!(rt; flat.inside, None);
     assert_eq!(rt; flat.harts.len(), 1);
     assert_eq!(rt; flat.harts[0].life, Life::Exited { code: 7 });
+    Ok(())
+}
+
+#[test]
+fn a_hart_is_answered_and_trapped(rt: HostRuntime) -> Result<(), Fail> {
+    let alloc = rt.alloc();
+    let mut flat = boot(alloc, &small_image(alloc)?, 1, limits(1024))?;
+    assert_eq!(rt; flat.harts.len(), 1);
+    flat.enter(Actor::Hart(0));
+    flat.out(0, 0x41);
+    assert_eq!(rt; flat.harts.len(), 1);
+    assert_eq!(rt; flat.harts[0].looked, Some(0));
+    flat.refuse(0, Refusal::Number { n: 9 });
+    assert_eq!(rt; flat.harts.len(), 1);
+    assert_eq!(rt; flat.harts[0].looked, Some(0xFFFF_FFFF_FFFF_FFF6));
+    assert_eq!(rt; flat.inside, Some(Actor::Hart(0)));
+    flat.trap(0, 2, 0xFF);
+    assert_eq!(rt; flat.inside, None);
+    assert_eq!(rt; flat.harts.len(), 1);
+    let trapped = Life::Trapped {
+        cause: 2,
+        value: 0xFF,
+    };
+    assert_eq!(rt; flat.harts[0].life, trapped);
     Ok(())
 }

@@ -5,6 +5,7 @@
 mod image;
 mod memory;
 mod refusal;
+mod rules;
 mod shelf;
 mod sink;
 mod status;
@@ -15,6 +16,7 @@ mod text;
 pub use image::{DataPage, Delta, Image, Jump, Limits, Name, Page};
 pub use memory::Memory;
 pub use refusal::Refusal;
+pub use rules::{ElfRule, LoadRule};
 pub use shelf::{FsShelf, MemShelf, Shelf, ShelfFault};
 pub use sink::{MemSink, Sink, SinkFault, StdSink};
 pub use status::{LimitKind, Status, Unbuilt};

@@ -1,7 +1,9 @@
 pub mod ImageLemmas
 pub mod LineLemmas
 pub mod ScriptLemmas
+pub mod DeedLemmas
 pub mod StepLemmas
+pub mod CarryLemmas
 pub mod RunLemmas
 pub mod DeterminedLemmas
 pub mod AnswerLemmas

@@ -1,6 +1,7 @@
 //! The runs of the program.
 #![tactic(auto)]
 
+mod deeds;
 mod input;
 mod laws;
 mod lines;

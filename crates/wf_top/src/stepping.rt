@@ -1,21 +1,35 @@
 //! What steps the machine: units of harts, and the commands of a script.
-ghost use Rattle.std.specs.Prelude.{◌≡◌, ◌<◌, ◌≤◌, ◌+◌, ℕ, OnOk, OnErr, Some, Err, length, vec_len, vec_capacity};
+ghost use Rattle.std.specs.Prelude.{◌≡◌, ◌≢◌, ◌<◌, ◌+◌, ◌++◌, ◌∷◌, [], ℕ, List, OnOk, OnErr, None, Some, Err, length, slice_get, vec_len, vec_capacity};
 ghost use Rattle.std.specs.List.{AllByRecursion};
-ghost use Rattle.wf_flat.specs.Steps.{OfHart};
+ghost use Rattle.std.specs.Option.{option_map};
+ghost use Rattle.rv_inst.specs.Meanings.{called};
+ghost use Rattle.wf_outside.specs.declared.refusal.Refusal.TheVariants as refusals;
+ghost use Rattle.wf_flat.specs.declared.event.Event.TheVariants as events;
+ghost use Rattle.wf_flat.specs.declared.event.Entry.{Entry as FlatEntry};
+ghost use Rattle.wf_flat.specs.declared.state.Life.TheVariants.{Running};
+ghost use Rattle.wf_flat.specs.State.{FlatState};
+ghost use Rattle.wf_flat.specs.Refusals.{refused_answer};
+ghost use Rattle.wf_flat.specs.Steps.{OfHart, fetched_with, answered, arch_after};
+ghost use Rattle.wf_flat.specs.Calls.{Exactly};
 ghost use Rattle.wf_flat.specs.Legal.{at_rest};
 ghost use Rattle.wf_flat.specs.Follows.{IsUnit, AreUnits};
 ghost use Rattle.wf_flat.specs.Unbuilt.{IsUnbuilt};
 ghost use Rattle.wf_top.specs.Follows.{IsBlock, Follows, MeetsUnbuilt};
-ghost use Rattle.wf_top.specs.Stepping.{IsResting, IsThere, IsAt, RunsTo, ExitsWith, Continues, StopsIn};
+ghost use Rattle.wf_top.specs.Stepping.{IsStart, IsResting, IsTrying, IsThere, IsAt, IsToDo, EndsWith, IsDeed, Begins, Continues, StopsIn};
 
+use crate::deeds::{Deed, deed_of};
 use crate::script::Command;
-use rv_hart::{finish, plan};
-use rv_inst::{Arch, Want, decode};
+use rv_hart::finish_call;
+use rv_inst::Arch;
 use std::alloc::AllocError;
 use wf_flat::{Actor, Entry, Event, Flat, Life};
+use wf_outside::Refusal;
 
 // The most entries that a unit makes.
-const MOST: usize = 3;
+const MOST: usize = 4;
+
+// What a call answers in a0 where none has its number: -10.
+const NO_SUCH_CALL: u64 = 0xFFFF_FFFF_FFFF_FFF6;
 
 /// Why a script was not followed to its end.
 #[derive(Clone, Copy, Debug, PartialEq, Eq)]
@@ -37,57 +51,227 @@ impl From<AllocError> for StepFault {
     }
 }
 
-// A hart runs the instruction of the word at its pc, which wants nothing, up to these registers.
-fn run_instruction(flat: &mut Flat, journal: &mut Vec<Entry>, h: u8, pc: u64, word: u32, next: Arch)
-    requires room { vec_len journal.old + 3 ≤ vec_capacity journal.old }
-    requires rests { IsResting flat.old }
-    requires ready { OfHart flat.old h (λ hart. IsAt flat.old hart pc word × RunsTo hart word next) }
-    ensures made { Continues flat.old journal.old.items flat.new journal.new.items (IsUnit h) }
+// An entry of a hart, for which there is room.
+fn note(journal: &mut Vec<Entry>, h: u8, event: Event)
+    requires { vec_len journal.old < vec_capacity journal.old }
+    ensures items { journal.new.items ≡ journal.old.items ++ record { actor = Actor.Hart h; event = event } ∷ [] }
+    ensures len { vec_len journal.new ≡ vec_len journal.old + 1 }
+    ensures capacity { vec_capacity journal.new ≡ vec_capacity journal.old }
+{
+    journal.push_reserved(Entry {
+        actor: Actor::Hart(h),
+        event,
+    });
+}
+
+// A try begins: a hart fetches the word at its pc.
+fn fetch(flat: &mut Flat, journal: &mut Vec<Entry>, h: u8, pc: u64, word: u32)
+    requires room { vec_len journal.old < vec_capacity journal.old }
+    requires tries { IsTrying flat.old h }
+    requires ready { OfHart flat.old h (λ hart. IsAt flat.old hart pc word) }
+    ensures made { (s : FlatState) (before : List FlatEntry) → Begins s before flat.old journal.old.items h → Begins s before flat.new journal.new.items h }
+    ensures tries { IsTrying flat.new h }
+    ensures hart { slice_get flat.new.harts h ≡ option_map (fetched_with word) (slice_get flat.old.harts h) }
+    ensures harts { length flat.new.harts ≡ length flat.old.harts }
+    ensures len { vec_len journal.new ≡ vec_len journal.old + 1 }
+    ensures capacity { vec_capacity journal.new ≡ vec_capacity journal.old }
+{
+    flat.fetch(h, pc, word);
+    note(journal, h, Event::Fetch { pc, word });
+}
+
+// A try ends: its instruction wants nothing, and leaves these registers.
+fn end(flat: &mut Flat, journal: &mut Vec<Entry>, h: u8, next: Arch)
+    requires room { vec_len journal.old < vec_capacity journal.old }
+    requires tries { IsTrying flat.old h }
+    requires ready { OfHart flat.old h (λ hart. EndsWith hart next) }
+    ensures made { (s : FlatState) (before : List FlatEntry) → Begins s before flat.old journal.old.items h → Continues s before flat.new journal.new.items (IsUnit h) }
     ensures rests { IsResting flat.new }
     ensures harts { length flat.new.harts ≡ length flat.old.harts }
 {
-    let actor = Actor::Hart(h);
-    flat.fetch(h, pc, word);
     flat.end(h, next);
-    journal.push_reserved(Entry {
-        actor,
-        event: Event::Fetch { pc, word },
-    });
-    journal.push_reserved(Entry {
-        actor,
-        event: Event::End { pc: next.pc },
-    });
+    note(journal, h, Event::End { pc: next.pc });
 }
 
-// A hart exits, by the ecall at its pc.
-fn exit(flat: &mut Flat, journal: &mut Vec<Entry>, h: u8, pc: u64, word: u32, code: u64)
-    requires room { vec_len journal.old + 3 ≤ vec_capacity journal.old }
-    requires rests { IsResting flat.old }
-    requires ready { OfHart flat.old h (λ hart. IsAt flat.old hart pc word × ExitsWith hart word code) }
-    ensures made { Continues flat.old journal.old.items flat.new journal.new.items (IsUnit h) }
+// A hart asks for its trap, and stops.
+fn trap(flat: &mut Flat, journal: &mut Vec<Entry>, h: u8, cause: u8, value: u64)
+    requires room { vec_len journal.old + 1 < vec_capacity journal.old }
+    requires tries { IsTrying flat.old h }
+    requires ready { OfHart flat.old h (λ hart. IsToDo flat.old hart (Exactly (events.Trap cause value) ∷ [])) }
+    ensures made { (s : FlatState) (before : List FlatEntry) → Begins s before flat.old journal.old.items h → Continues s before flat.new journal.new.items (IsUnit h) }
     ensures rests { IsResting flat.new }
     ensures harts { length flat.new.harts ≡ length flat.old.harts }
 {
-    let actor = Actor::Hart(h);
-    flat.fetch(h, pc, word);
-    flat.enter(actor);
-    flat.exit(h, code);
-    journal.push_reserved(Entry {
-        actor,
-        event: Event::Fetch { pc, word },
-    });
-    journal.push_reserved(Entry {
-        actor,
-        event: Event::Enter,
-    });
-    journal.push_reserved(Entry {
-        actor,
-        event: Event::Exit { code },
-    });
+    flat.enter(Actor::Hart(h));
+    flat.trap(h, cause, value);
+    note(journal, h, Event::Enter);
+    note(journal, h, Event::Trap { cause, value });
 }
 
-/// One unit of a hart: a whole instruction, an exit, or an idle where it has stopped. After an error
-/// nothing has changed.
+// A hart exits.
+fn exit(flat: &mut Flat, journal: &mut Vec<Entry>, h: u8, code: u64)
+    requires room { vec_len journal.old + 1 < vec_capacity journal.old }
+    requires tries { IsTrying flat.old h }
+    requires ready { OfHart flat.old h (λ hart. IsToDo flat.old hart (Exactly (events.Exit code) ∷ [])) }
+    ensures made { (s : FlatState) (before : List FlatEntry) → Begins s before flat.old journal.old.items h → Continues s before flat.new journal.new.items (IsUnit h) }
+    ensures rests { IsResting flat.new }
+    ensures harts { length flat.new.harts ≡ length flat.old.harts }
+{
+    flat.enter(Actor::Hart(h));
+    flat.exit(h, code);
+    note(journal, h, Event::Enter);
+    note(journal, h, Event::Exit { code });
+}
+
+// A call ends at once, and leaves these registers.
+fn answer(flat: &mut Flat, journal: &mut Vec<Entry>, h: u8, next: Arch)
+    requires room { vec_len journal.old + 1 < vec_capacity journal.old }
+    requires tries { IsTrying flat.old h }
+    requires ready { OfHart flat.old h (λ hart. IsToDo flat.old hart (Exactly (events.End next.pc) ∷ []) × (next ≡ arch_after hart)) }
+    ensures made { (s : FlatState) (before : List FlatEntry) → Begins s before flat.old journal.old.items h → Continues s before flat.new journal.new.items (IsUnit h) }
+    ensures rests { IsResting flat.new }
+    ensures harts { length flat.new.harts ≡ length flat.old.harts }
+{
+    flat.enter(Actor::Hart(h));
+    flat.end(h, next);
+    note(journal, h, Event::Enter);
+    note(journal, h, Event::End { pc: next.pc });
+}
+
+// A byte is put, and the call leaves these registers.
+fn put_byte(flat: &mut Flat, journal: &mut Vec<Entry>, h: u8, byte: u8, next: Arch)
+    requires room { vec_len journal.old + 2 < vec_capacity journal.old }
+    requires tries { IsTrying flat.old h }
+    requires ready { OfHart flat.old h (λ hart. IsToDo flat.old hart (Exactly (events.Out byte) ∷ Exactly (events.End next.pc) ∷ []) × (next ≡ arch_after (answered 0 hart))) }
+    ensures made { (s : FlatState) (before : List FlatEntry) → Begins s before flat.old journal.old.items h → Continues s before flat.new journal.new.items (IsUnit h) }
+    ensures rests { IsResting flat.new }
+    ensures harts { length flat.new.harts ≡ length flat.old.harts }
+{
+    flat.enter(Actor::Hart(h));
+    flat.out(h, byte);
+    flat.end(h, next);
+    note(journal, h, Event::Enter);
+    note(journal, h, Event::Out { byte });
+    note(journal, h, Event::End { pc: next.pc });
+}
+
+// A call is refused, since none has its number, and leaves these registers.
+fn refuse(flat: &mut Flat, journal: &mut Vec<Entry>, h: u8, number: u64, next: Arch)
+    requires room { vec_len journal.old + 2 < vec_capacity journal.old }
+    requires tries { IsTrying flat.old h }
+    requires ready { OfHart flat.old h (λ hart. IsToDo flat.old hart (Exactly (events.Refused (refusals.Number number)) ∷ Exactly (events.End next.pc) ∷ [])
+        × (next ≡ arch_after (answered (refused_answer (refusals.Number number)) hart))) }
+    ensures made { (s : FlatState) (before : List FlatEntry) → Begins s before flat.old journal.old.items h → Continues s before flat.new journal.new.items (IsUnit h) }
+    ensures rests { IsResting flat.new }
+    ensures harts { length flat.new.harts ≡ length flat.old.harts }
+{
+    let reason = Refusal::Number { n: number };
+    flat.enter(Actor::Hart(h));
+    flat.refuse(h, reason);
+    flat.end(h, next);
+    note(journal, h, Event::Enter);
+    note(journal, h, Event::Refused { reason });
+    note(journal, h, Event::End { pc: next.pc });
+}
+
+// The registers behind a call with this answer.
+fn behind(arch: &Arch, answer: u64) -> Arch
+    ensures { result ≡ called arch.now answer }
+{
+    let mut next = *arch;
+    finish_call(&mut next, answer);
+    next
+}
+
+// A hart in a try of a word does what it is to do.
+fn carry_out(flat: &mut Flat, journal: &mut Vec<Entry>, h: u8, arch: &Arch, word: u32, deed: Deed)
+    requires room { vec_len journal.old + 2 < vec_capacity journal.old }
+    requires tries { IsTrying flat.old h }
+    requires ready { OfHart flat.old h (λ hart. (hart.life ≡ Running) × (hart.fetched ≡ Some word) × (hart.looked ≡ None) × (hart.arch ≡ arch.now)) }
+    requires deed { IsDeed arch.now word deed }
+    ensures made { (s : FlatState) (before : List FlatEntry) → Begins s before flat.old journal.old.items h → Continues s before flat.new journal.new.items (IsUnit h) }
+    ensures rests { IsResting flat.new }
+    ensures harts { length flat.new.harts ≡ length flat.old.harts }
+{
+    match deed {
+        Deed::Run { next } => end(flat, journal, h, next),
+        Deed::Trap { cause, value } => trap(flat, journal, h, cause, value),
+        Deed::Exit { code } => exit(flat, journal, h, code),
+        Deed::Out { byte } => put_byte(flat, journal, h, byte, behind(arch, 0)),
+        Deed::OwnGeneration => {
+            let own = u64::from(flat.harts[h as usize].generation);
+            answer(flat, journal, h, behind(arch, own));
+        }
+        Deed::Refuse { number } => {
+            refuse(flat, journal, h, number, behind(arch, NO_SUCH_CALL));
+        }
+    }
+}
+
+// A hart that runs and is in no try does what it is to do with the word at its pc.
+fn try_word(
+    flat: &mut Flat,
+    journal: &mut Vec<Entry>,
+    h: u8,
+    arch: &Arch,
+    word: u32,
+) -> Result<(), StepFault>
+    requires room { vec_len journal.old + 3 < vec_capacity journal.old }
+    requires rests { IsResting flat.old }
+    requires ready { OfHart flat.old h (λ hart. IsAt flat.old hart arch.now.pc word × (hart.arch ≡ arch.now)) }
+    ensures ok { OnOk result (Continues flat.old journal.old.items flat.new journal.new.items (IsUnit h)) }
+    ensures unbuilt { (pc : ℕ) → result ≡ Err (StepFault.Unbuilt pc) → IsUnbuilt flat.old h pc }
+    ensures err { OnErr result ((flat.new ≡ flat.old) × (journal.new.items ≡ journal.old.items)) }
+    ensures rests { IsResting flat.new }
+    ensures harts { length flat.new.harts ≡ length flat.old.harts }
+{
+    let Some(deed) = deed_of(arch, word) else {
+        return Err(StepFault::Unbuilt { pc: arch.pc });
+    };
+    fetch(flat, journal, h, arch.pc, word);
+    carry_out(flat, journal, h, arch, word, deed);
+    Ok(())
+}
+
+// What a hart that is in no try finds at its pc.
+#[derive(Clone, Copy, Debug, PartialEq, Eq)]
+enum Start {
+    // It has stopped.
+    Stopped,
+    // A word of its text, with its registers.
+    Word { arch: Arch, word: u32 },
+    // A page that is no text.
+    Fault { pc: u64 },
+}
+
+fn start_of(flat: &Flat, h: u8) -> Start
+    requires { h < length flat.now.harts }
+    ensures { IsStart flat.now h result }
+{
+    let hart = &flat.harts[h as usize];
+    if hart.life != Life::Running {
+        return Start::Stopped;
+    }
+    let arch = hart.arch;
+    match flat.text_word(hart.generation, arch.pc) {
+        Some(word) => Start::Word { arch, word },
+        None => Start::Fault { pc: arch.pc },
+    }
+}
+
+// A hart that has stopped idles.
+fn idle(flat: &Flat, journal: &mut Vec<Entry>, h: u8)
+    requires room { vec_len journal.old < vec_capacity journal.old }
+    requires rests { IsResting flat.now }
+    requires ready { OfHart flat.now h (λ hart. hart.life ≢ Running) }
+    ensures { Continues flat.now journal.old.items flat.now journal.new.items (IsUnit h) }
+{
+    let _flat = flat;
+    note(journal, h, Event::Idle);
+}
+
+/// One unit of a hart: a whole instruction or call, a trap, an exit, or an idle where it has stopped.
+/// After an error nothing has changed.
 pub fn step(flat: &mut Flat, journal: &mut Vec<Entry>, h: u8) -> Result<(), StepFault>
     requires rests { IsResting flat.old }
     requires there { h < length flat.old.harts }
@@ -98,35 +282,14 @@ pub fn step(flat: &mut Flat, journal: &mut Vec<Entry>, h: u8) -> Result<(), Step
     ensures harts { length flat.new.harts ≡ length flat.old.harts }
 {
     journal.reserve(MOST)?;
-    let hart = &flat.harts[h as usize];
-    if hart.life != Life::Running {
-        journal.push_reserved(Entry {
-            actor: Actor::Hart(h),
-            event: Event::Idle,
-        });
-        return Ok(());
-    }
-    let arch = hart.arch;
-    let generation = hart.generation;
-    let pc = arch.pc;
-    let Some(word) = flat.text_word(generation, pc) else {
-        return Err(StepFault::Unbuilt { pc });
-    };
-    let Some(inst) = decode(word) else {
-        return Err(StepFault::Unbuilt { pc });
-    };
-    match plan(&arch, inst) {
-        Want::Nothing => {
-            let mut next = arch;
-            finish(&mut next, inst, 0);
-            run_instruction(flat, journal, h, pc, word, next);
+    match start_of(flat, h) {
+        Start::Stopped => {
+            idle(flat, journal, h);
             Ok(())
         }
-        Want::Call => {
-            if arch.x[17] != 0 {
-                return Err(StepFault::Unbuilt { pc });
-            }
-            exit(flat, journal, h, pc, word, arch.x[10]);
+        Start::Word { arch, word } => try_word(flat, journal, h, &arch, word),
+        Start::Fault { pc } => {
+            trap(flat, journal, h, 12, pc);
             Ok(())
         }
     }

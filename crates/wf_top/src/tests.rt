@@ -601,32 +601,212 @@ fn longest_scripts(rt: HostRuntime) -> Result<(), Fail> {
     Ok(())
 }
 
+// The image of these words.
+fn image_of(alloc: Global, words: &[u32]) -> Result<Vec<u8>, Fail> {
+    let mut text = Vec::new(alloc);
+    let mut size: u16 = 0;
+    for word in words {
+        text.extend_from_slice(&word.to_le_bytes())?;
+        size = size.wrapping_add(4);
+    }
+    image_file(alloc, size, &text)
+}
+
 #[test]
 fn unbuilt_steps(rt: HostRuntime) -> Result<(), Fail> {
     let alloc = rt.alloc();
-    let ebreak = patched(alloc, &[(4100, 0x73), (4101, 0), (4102, 0x10), (4103, 0)])?;
-    let slli = patched(alloc, &[(4100, 0x13), (4101, 0x10), (4102, 0), (4103, 0)])?;
-    let other_call = patched(alloc, &[(4098, 0x10)])?;
-    let mut addis = Vec::new(alloc);
-    for _ in 0..1024 {
-        addis.extend_from_slice(b"\x13\x00\x00\x00")?;
-    }
-    let page = image_file(alloc, 4096, &addis)?;
-    let step = |pc| unbuilt(Unbuilt::Step { pc });
-    for (name, image, script, want) in [
-        ("ebreak", &ebreak, "step h0 2\n", step(0x1_0004)),
-        ("slli", &slli, "step h0 3\n", step(0x1_0004)),
-        ("other call", &other_call, "step h0 3\n", step(0x1_0008)),
-        ("page", &page, "step h0 1025\n", step(0x1_1000)),
-        ("ebreak", &ebreak, "step h0 1\n", Status::Done),
-        ("slli", &slli, "step h0 1\n", Status::Done),
-        ("other call", &other_call, "step h0 2\n", Status::Done),
-        ("page", &page, "step h0 1024\n", Status::Done),
+    for (word, name) in [
+        (0x0001_2083, "lw x1, 0(x2)"),
+        (0xFE11_3C23, "sd x1, -8(x2)"),
+        (0x0220_81B3, "mul x3, x1, x2"),
+        (0x0220_C1BB, "divw x3, x1, x2"),
+        (0x0011_20AF, "amoadd.w x1, x1, (x2)"),
+        (0x1001_30AF, "lr.d x1, (x2)"),
+        (0x1811_20AF, "sc.w x1, x1, (x2)"),
     ] {
-        let (status, got) = run(alloc, image, script)?;
-        assert_eq!(rt; status, want, "{name}");
-        assert_eq!(rt; got.is_empty(), status != Status::Done, "{name}");
+        let image = image_of(alloc, &[0x0000_0013, word])?;
+        let (status, got) = run(alloc, &image, "step h0 2\n")?;
+        assert_eq!(rt; status, unbuilt(Unbuilt::Step { pc: 0x1_0004 }), "{name}");
+        assert!(rt; got.is_empty(), "{name}");
+        let (status, _) = run(alloc, &image, "step h0 1\n")?;
+        assert_eq!(rt; status, Status::Done, "{name}");
     }
+    // addi x17, x0, N and ecall
+    for number in [2, 3, 5, 6, 7, 8] {
+        let image = image_of(alloc, &[0x0000_0893 + (number << 20), 0x0000_0073])?;
+        let (status, got) = run(alloc, &image, "step h0 2\n")?;
+        assert_eq!(rt; status, unbuilt(Unbuilt::Step { pc: 0x1_0004 }), "{number}");
+        assert!(rt; got.is_empty(), "{number}");
+    }
+    Ok(())
+}
+
+// What is printed of so many units of a program, from its first entry to the registers at its end.
+fn journal_of(alloc: Global, words: &[u32], script: &str) -> Result<Vec<u8>, Fail> {
+    let (status, got) = run(alloc, &image_of(alloc, words)?, script)?;
+    if status != Status::Done {
+        return Ok(Vec::new(alloc));
+    }
+    let head = "wfpatch run 1\nharts 1\nframes 1024\n".len();
+    Ok(got[head.min(got.len())..].to_vec(alloc)?)
+}
+
+#[test]
+fn traps(rt: HostRuntime) -> Result<(), Fail> {
+    let alloc = rt.alloc();
+    for (words, script, want) in [
+        // jal x1, 2: x1 is not written
+        (
+            [0x0020_00EF, 0].as_slice(),
+            "step h0 2\n",
+            "h0 fetch 10000 002000ef
+h0 enter
+h0 trap 0 10002
+h0 idle
+= hart 0 gen 0 pc 10000 trap 0 10002
+= regs 0 0 3e00010000 0 0 0 0 0 0 0 0 0 0 0 0 0 0 0 0 0 0 0 0 0 0 0 0 0 0 0 0 0
+",
+        ),
+        // no instruction, and slli with a bit of funct7
+        (
+            [0xFFFF_FFFF, 0].as_slice(),
+            "step h0 1\n",
+            "h0 fetch 10000 ffffffff\nh0 enter\nh0 trap 2 ffffffff\n= hart 0 gen 0 pc 10000 trap 2 ffffffff\n",
+        ),
+        (
+            [0x8000_1013, 0].as_slice(),
+            "step h0 1\n",
+            "h0 fetch 10000 80001013\nh0 enter\nh0 trap 2 80001013\n= hart 0 gen 0 pc 10000 trap 2 80001013\n",
+        ),
+        // ebreak
+        (
+            [0x0010_0073, 0].as_slice(),
+            "step h0 1\n",
+            "h0 fetch 10000 00100073\nh0 enter\nh0 trap 3 10000\n= hart 0 gen 0 pc 10000 trap 3 10000\n",
+        ),
+        // jal x0, 4096, out of the text
+        (
+            [0x0000_106F, 0].as_slice(),
+            "step h0 2\n",
+            "h0 fetch 10000 0000106f\nh0 end 11000\nh0 enter\nh0 trap 12 11000\n= hart 0 gen 0 pc 11000 trap 12 11000\n",
+        ),
+        // jalr x1, -16(x2), to the stack
+        (
+            [0xFF01_00E7, 0].as_slice(),
+            "step h0 2\n",
+            "h0 fetch 10000 ff0100e7
+h0 end 3e0000fff0
+h0 enter
+h0 trap 12 3e0000fff0
+= hart 0 gen 0 pc 3e0000fff0 trap 12 3e0000fff0
+= regs 0 10004 3e00010000 0",
+        ),
+    ] {
+        let got = journal_of(alloc, words, script)?;
+        assert!(rt; got.starts_with(want.as_bytes()), "{want}");
+    }
+    Ok(())
+}
+
+#[test]
+fn calls(rt: HostRuntime) -> Result<(), Fail> {
+    let alloc = rt.alloc();
+    for (words, script, want) in [
+        // addi x17, x0, 1; addi x10, x0, 321; ecall: a byte out
+        (
+            [0x0010_0893, 0x1410_0513, 0x0000_0073].as_slice(),
+            "step h0 2\nstep h0 1\n",
+            "h0 fetch 10000 00100893
+h0 end 10004
+h0 fetch 10004 14100513
+h0 end 10008
+h0 fetch 10008 00000073
+h0 enter
+h0 out 41
+h0 end 1000c
+= hart 0 gen 0 pc 1000c running
+= regs 0 0 3e00010000 0 0 0 0 0 0 0 0 0 0 0 0 0 0 1 0 0 0 0 0 0 0 0 0 0 0 0 0 0
+",
+        ),
+        // addi x17, x0, 4; addi x10, x0, 9; ecall: the own generation
+        (
+            [0x0040_0893, 0x0090_0513, 0x0000_0073].as_slice(),
+            "step h0 3\n",
+            "h0 fetch 10000 00400893
+h0 end 10004
+h0 fetch 10004 00900513
+h0 end 10008
+h0 fetch 10008 00000073
+h0 enter
+h0 end 1000c
+= hart 0 gen 0 pc 1000c running
+= regs 0 0 3e00010000 0 0 0 0 0 0 0 0 0 0 0 0 0 0 4 0 0 0 0 0 0 0 0 0 0 0 0 0 0
+",
+        ),
+        // addi x17, x0, 9; ecall; addi x0, x0, 0: no such call
+        (
+            [0x0090_0893, 0x0000_0073, 0x0000_0013].as_slice(),
+            "step h0 3\n",
+            "h0 fetch 10000 00900893
+h0 end 10004
+h0 fetch 10004 00000073
+h0 enter
+h0 refused number 9
+h0 end 10008
+h0 fetch 10008 00000013
+h0 end 1000c
+= hart 0 gen 0 pc 1000c running
+= regs 0 0 3e00010000 0 0 0 0 0 0 0 fffffffffffffff6 0 0 0 0 0 0 9 0 0 0 0 0 0 0 0 0 0 0 0 0 0
+",
+        ),
+        // addi x17, x0, -1; ecall
+        (
+            [0xFFF0_0893, 0x0000_0073, 0x0000_0013].as_slice(),
+            "step h0 2\n",
+            "h0 fetch 10000 fff00893
+h0 end 10004
+h0 fetch 10004 00000073
+h0 enter
+h0 refused number 18446744073709551615
+h0 end 10008
+",
+        ),
+    ] {
+        let got = journal_of(alloc, words, script)?;
+        assert!(rt; got.starts_with(want.as_bytes()), "{want}");
+    }
+    Ok(())
+}
+
+#[test]
+fn loops(rt: HostRuntime) -> Result<(), Fail> {
+    let alloc = rt.alloc();
+    // addi x1, x0, 2; addi x1, x1, -1; bne x1, x0, -4; lui x3, 0x80000; sraiw x4, x3, 4
+    let words = [
+        0x0020_0093,
+        0xFFF0_8093,
+        0xFE00_9EE3,
+        0x8000_01B7,
+        0x4041_D21B,
+    ];
+    let want = "h0 fetch 10000 00200093
+h0 end 10004
+h0 fetch 10004 fff08093
+h0 end 10008
+h0 fetch 10008 fe009ee3
+h0 end 10004
+h0 fetch 10004 fff08093
+h0 end 10008
+h0 fetch 10008 fe009ee3
+h0 end 1000c
+h0 fetch 1000c 800001b7
+h0 end 10010
+h0 fetch 10010 4041d21b
+h0 end 10014
+= hart 0 gen 0 pc 10014 running
+= regs 0 0 3e00010000 ffffffff80000000 fffffffff8000000 0";
+    let got = journal_of(alloc, &words, "step h0 7\n")?;
+    assert!(rt; got.starts_with(want.as_bytes()));
     Ok(())
 }
 

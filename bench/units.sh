@@ -1,0 +1,36 @@
+#!/bin/sh
+# A program for UNITS units, RUNS times (20): microseconds a run, the report's bytes, and the peak of memory.
+# NAME is idle, the example of three instructions, of whose units all but three are idle; or loop, a sum and
+# a branch back, without end. It wants the program that `rt ci` left in crates/wfpatch/out, and GNU time. Run
+# it at the top of the repository: bench/units.sh NAME UNITS [RUNS]
+set -eu
+name=$1
+units=$2
+runs=${3:-20}
+program=$PWD/crates/wfpatch/out/wfpatch
+folder=$(mktemp -d)
+trap 'rm -rf "$folder"' EXIT
+case $name in
+idle) cp crates/wfpatch/data/prog.elf "$folder" ;;
+loop)
+    # addi x1, x1, 1; bne x1, x0, -4; addi x0, x0, 0: as long as the example's text
+    head -c 4096 crates/wfpatch/data/prog.elf >"$folder/prog.elf"
+    printf '\223\200\020\000\343\236\000\376\023\000\000\000' >>"$folder/prog.elf"
+    ;;
+*)
+    echo "no program $name" >&2
+    exit 1
+    ;;
+esac
+printf 'step h0 %s\n' "$units" >"$folder/steps.txt"
+cd "$folder"
+"$program" run prog.elf steps.txt >report
+start=$(date +%s%N)
+i=0
+while [ "$i" -lt "$runs" ]; do
+    "$program" run prog.elf steps.txt >report
+    i=$((i + 1))
+done
+end=$(date +%s%N)
+peak=$(/usr/bin/time -f %M "$program" run prog.elf steps.txt 2>&1 >report)
+echo "$name, units $units: $(((end - start) / runs / 1000)) microseconds a run over $runs runs, report $(wc -c <report) bytes, peak $peak KiB"

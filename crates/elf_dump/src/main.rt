@@ -1,0 +1,89 @@
+//! `elf_dump FILE`: prints what is loaded of an ELF executable, for comparing it with what other tools
+//! say: the entry, the first page behind all, the pages with their rights, the names, and each word that
+//! isn't 0 as its address and its eight bytes in the order of addresses. Addresses are hexadecimal.
+#![tactic(auto)]
+
+use anyhow::{Result, bail};
+use elf_load::{LoadFault, load};
+use elf_read::{Elf, ElfFault, Kind};
+use std::rt::{Env, Files};
+use std::{io, str};
+use wf_outside::{FsShelf, Image, Name, Shelf, ShelfFault};
+
+// `Elf::read` asks for fewer than 2^32 bytes.
+const MOST_BYTES: u64 = 0xFFFF_FFFF;
+
+const PAGE_WORDS: usize = 512;
+
+// The file that the command line names.
+fn file<R: Env + Files + AllocGlobal>(rt: &R) -> Result<Elf> {
+    let Some(name) = std::env::args(rt)?.nth(1) else {
+        bail!("usage: elf_dump FILE");
+    };
+    let bytes = match FsShelf::new(rt, rt.alloc()).read(name.as_bytes(), MOST_BYTES) {
+        Ok(bytes) => bytes,
+        Err(ShelfFault::Memory) => bail!("memory"),
+        Err(_) => bail!("the file can't be read"),
+    };
+    match Elf::read(rt.alloc(), bytes, Kind::Exec) {
+        Ok(elf) => Ok(elf),
+        Err(ElfFault::Rule { rule, at }) => bail!("{rule:?} at {at}"),
+        Err(ElfFault::Memory) => bail!("memory"),
+    }
+}
+
+// What is loaded of it.
+fn image<R: Env + Files + AllocGlobal>(rt: &R) -> Result<Image> {
+    match load(rt.alloc(), &file(rt)?) {
+        Ok(image) => Ok(image),
+        Err(LoadFault::Rule { rule, at }) => bail!("{rule:?} at {at}"),
+        Err(LoadFault::Memory) => bail!("memory"),
+    }
+}
+
+// Where it begins, where it ends, and its pages.
+fn print_pages(rt: &impl Print, image: &Image) -> io::Result<()> {
+    println!(rt; "entry {:x}", image.entry)?;
+    println!(rt; "end {:x}", image.end)?;
+    for page in &image.text {
+        println!(rt; "page {:x} text", page.number)?;
+    }
+    for page in &image.pages {
+        let rights = if page.write { "rw" } else { "r" };
+        println!(rt; "page {:x} {rights}", page.number)?;
+    }
+    Ok(())
+}
+
+fn print_names(rt: &impl Print, names: &[Name]) -> io::Result<()> {
+    for name in names {
+        let text = str::from_utf8(name.name.bytes()).unwrap_or("?");
+        let binding = if name.global { "global" } else { "local" };
+        println!(rt; "name {:x} {} {binding} {text}", name.addr, name.size)?;
+    }
+    Ok(())
+}
+
+// The words of a page that aren't 0.
+fn print_words(rt: &impl Print, number: u32, words: &[u64]) -> io::Result<()> {
+    for (i, word) in words.iter().take(PAGE_WORDS).enumerate() {
+        if *word != 0 {
+            let address = 4096 * u64::from(number) + 8 * i as u64;
+            println!(rt; "{address:x} {:016x}", word.swap_bytes())?;
+        }
+    }
+    Ok(())
+}
+
+fn main(rt: HostRuntime) -> Result<()> {
+    let image = image(&rt)?;
+    print_pages(&rt, &image)?;
+    print_names(&rt, &image.names)?;
+    for page in &image.text {
+        print_words(&rt, page.number, &page.words)?;
+    }
+    for page in &image.pages {
+        print_words(&rt, page.number, &page.words)?;
+    }
+    Ok(())
+}

@@ -1,0 +1,9 @@
+pub mod FillingLemmas
+pub mod ImageLemmas
+pub mod KeptLemmas
+pub mod LawLemmas
+pub mod NumberLemmas
+pub mod OnPageLemmas
+pub mod PageLemmas
+pub mod PagingLemmas
+pub mod PlacingLemmas

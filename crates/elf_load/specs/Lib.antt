@@ -1,0 +1,5 @@
+pub mod Demands
+pub mod Loaded
+pub mod Placing
+pub mod Rules
+pub mod Segments

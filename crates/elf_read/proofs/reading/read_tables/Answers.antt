@@ -1,0 +1,45 @@
+use Rattle.std.proofs.Common.{◌≡◌, Err, ap, sym, ◌∙◌, inr}
+use Rattle.std.specs.Result.{result_err}
+use Rattle.std.proofs.lemmas.Result.{err_from_is_err_and}
+use Rattle.elf_read.specs.Records.{symbol_table, sections_of}
+use Rattle.elf_read.proofs.RuleLemmas.{IsSound, part_answers, in_header, in_segments, in_sections, in_symbols, headers_in}
+use Rattle.elf_read.proofs.reading.read_tables.Goals as goal
+
+pub returns-in_err-header-clause-fault : goal.returns-in_err-header-clause-fault
+returns-in_err-header-clause-fault c =
+    let p = err_from_is_err_and c.from_residual.result c.from_residual.ensures.1 in
+    inr (ap result_err (p.1 ∙ ap Err p.2) ∙ sym (in_header c.args.kind c.args.bytes.now _ c.in_err-header.ensures.first))
+
+pub returns-in_err-segments-clause-fault : goal.returns-in_err-segments-clause-fault
+returns-in_err-segments-clause-fault c =
+    let p = err_from_is_err_and c.from_residual-in_err-segments.result c.from_residual-in_err-segments.ensures.1 in
+    let sound : IsSound c.args.kind c.args.bytes.now c.in_ok-header.header = record { unbroken = c.in_ok-header.ensures.first.0; is = c.in_ok-header.ensures.first.1 } in
+    part_answers _ _ _ _ _ (p.1 ∙ ap Err p.2) c.in_err-segments.ensures.first (λ fault. in_segments c.args.kind c.args.bytes.now c.in_ok-header.header fault sound)
+
+pub returns-in_err-sections-clause-fault : goal.returns-in_err-sections-clause-fault
+returns-in_err-sections-clause-fault c =
+    let p = err_from_is_err_and c.from_residual-in_err-sections.result c.from_residual-in_err-sections.ensures.1 in
+    let sound : IsSound c.args.kind c.args.bytes.now c.in_ok-header.header = record { unbroken = c.in_ok-header.ensures.first.0; is = c.in_ok-header.ensures.first.1 } in
+    part_answers _ _ _ _ _ (p.1 ∙ ap Err p.2) c.in_err-sections.ensures.first (λ fault. in_sections c.args.kind c.args.bytes.now c.in_ok-header.header fault sound c.in_ok-segments.ensures.first.0)
+
+pub returns-in_err-symbols-clause-fault : goal.returns-in_err-symbols-clause-fault
+returns-in_err-symbols-clause-fault c =
+    let p = err_from_is_err_and c.from_residual-in_err-symbols.result c.from_residual-in_err-symbols.ensures.1 in
+    let sound : IsSound c.args.kind c.args.bytes.now c.in_ok-header.header = record { unbroken = c.in_ok-header.ensures.first.0; is = c.in_ok-header.ensures.first.1 } in
+    let table : c.symbol_table-table.result ≡ symbol_table (sections_of c.args.bytes.now c.in_ok-header.header) = c.symbol_table-table.ensures ∙ ap symbol_table (c.deref.ensures.value ∙ c.in_ok-sections.ensures.first.1) in
+    part_answers _ _ _ _ _ (p.1 ∙ ap Err p.2) c.in_err-symbols.ensures.first (λ fault e. in_symbols c.args.kind c.args.bytes.now c.in_ok-header.header c.symbol_table-table.result sound table c.in_ok-segments.ensures.first.0 c.in_ok-sections.ensures.first.0 ∙ e)
+
+pub returns-clause-kept : goal.returns-clause-kept
+returns-clause-kept c = record {
+  few = c.requires;
+  header = c.in_ok-header.ensures.first.1;
+  places = headers_in c.args.bytes.now c.in_ok-header.header c.in_ok-segments.segments.items c.in_ok-header.ensures.first.1 c.in_ok-header.ensures.laid_out c.in_ok-segments.ensures.first.1;
+  fit = c.in_ok-segments.ensures.fit;
+  named = c.in_ok-symbols.ensures.named;
+}
+
+pub returns-clause-fault : goal.returns-clause-fault
+returns-clause-fault c =
+    let sound : IsSound c.args.kind c.args.bytes.now c.in_ok-header.header = record { unbroken = c.in_ok-header.ensures.first.0; is = c.in_ok-header.ensures.first.1 } in
+    let table : c.symbol_table-table.result ≡ symbol_table (sections_of c.args.bytes.now c.in_ok-header.header) = c.symbol_table-table.ensures ∙ ap symbol_table (c.deref.ensures.value ∙ c.in_ok-sections.ensures.first.1) in
+    inr (sym (in_symbols c.args.kind c.args.bytes.now c.in_ok-header.header c.symbol_table-table.result sound table c.in_ok-segments.ensures.first.0 c.in_ok-sections.ensures.first.0 ∙ c.in_ok-symbols.ensures.first.0))

@@ -1,0 +1,15 @@
+//! From instructions to words and texts, and the jump that a patch puts over a function.
+#![tactic(auto)]
+
+mod codes;
+mod encoding;
+mod formats;
+mod jumping;
+mod ranges;
+#[cfg(test)]
+mod tests;
+mod texts;
+
+pub use encoding::encode;
+pub use jumping::jump;
+pub use texts::dis;

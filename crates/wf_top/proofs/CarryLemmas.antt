@@ -1,0 +1,177 @@
+-- What a hart in a try is to do is what its deed says.
+use Rattle.std.proofs.Common.{◌≡◌, ◌<◌, ◌%◌, ℕ, [], ◌∷◌, Option, Some, None, true, false, refl, sym, subst, ap, ◌∙◌, arith}
+use Rattle.std.specs.Prelude.{slice_get, slice_index, option_and_then, unwrap_or, ◌==◌, nat_lt}
+use Rattle.std.specs.Option.{option_map}
+use Rattle.std.proofs.lemmas.Bool.Decides.{nat_tests}
+use Rattle.rv_inst.specs.declared.inst.Inst.{Inst}
+use Rattle.rv_inst.specs.declared.inst.Inst.TheVariants.{Lui, Auipc, Jal, Jalr, Branch, Load, Store, AluImm, Alu, Amo, Lr, Sc, Fence, FenceI, Ecall, Ebreak}
+use Rattle.rv_inst.specs.declared.want.Want.TheVariants.{Nothing}
+use Rattle.rv_inst.specs.Arch.{ArchState}
+use Rattle.rv_inst.specs.Decoding.{inst_of}
+use Rattle.rv_inst.specs.Meanings.{meaning_of, called, next_pc}
+use Rattle.wf_outside.specs.declared.refusal.Refusal.TheVariants.{Number}
+use Rattle.wf_flat.specs.declared.event.Event.TheVariants as events
+use Rattle.wf_flat.specs.declared.state.Life.TheVariants.{Running}
+use Rattle.wf_flat.specs.State.{FlatState, HartState}
+use Rattle.wf_flat.specs.Memory.{word_at}
+use Rattle.wf_flat.specs.Refusals.{refused_answer}
+use Rattle.wf_flat.specs.Steps.{OfHart, Ask, Called, Stopped, inst_in, want_in, built_want, ask_of_word, arch_by, arch_after, call_answer, answered, fetched_with, text_of}
+use Rattle.wf_flat.specs.Unbuilt.{IsUnbuilt, IsUnbuiltInst, IsUnbuiltWord}
+use Rattle.wf_flat.specs.Calls.{Exactly, todo_by, todo_of, todo_of_call}
+use Rattle.wf_top.specs.declared.deeds.Deed.TheVariants.{Run, Trap, Exit, Out, OwnGeneration, Refuse}
+use Rattle.wf_top.specs.declared.stepping.Start.TheVariants.{Word, Fault}
+use Rattle.wf_top.specs.Stepping.{IsResting, IsStart, IsDeed, IsAt, IsToDo, EndsWith}
+use Rattle.wf_top.proofs.StepLemmas.{some_and, and_some, no_try_of}
+
+-- a hart in a try of a word, with these registers
+abbrev pub IsInTry : ArchState → ℕ → HartState → Type 0
+IsInTry arch word hart = (hart.life ≡ Running) × (hart.fetched ≡ Some word) × (hart.looked ≡ None) × (hart.arch ≡ arch)
+
+-- after what wants nothing the registers are those of its meaning
+plain_arch : (inst : Inst) (hart : HartState) → built_want inst hart.arch ≡ Some Nothing → arch_by (Some inst) hart ≡ meaning_of inst hart.arch (unwrap_or hart.looked 0)
+plain_arch (Lui rd imm) hart e = refl
+plain_arch (Auipc rd imm) hart e = refl
+plain_arch (Jal rd off) hart e = refl
+plain_arch (Jalr rd rs1 off) hart e = refl
+plain_arch (Branch cond rs1 rs2 off) hart e = refl
+plain_arch (Load width sign rd rs1 off) hart e = refl
+plain_arch (Store width rs1 rs2 off) hart e = refl
+plain_arch (AluImm op rd rs1 imm) hart e = refl
+plain_arch (Alu op rd rs1 rs2) hart e = refl
+plain_arch (Amo op wide aq rl rd rs1 rs2) hart e = refl
+plain_arch (Lr wide aq rl rd rs1) hart e = refl
+plain_arch (Sc wide aq rl rd rs1 rs2) hart e = refl
+plain_arch (Fence raw) hart e = refl
+plain_arch (FenceI raw) hart e = refl
+plain_arch Ebreak hart e = refl
+plain_arch Ecall hart e = absurd (cc)
+
+pub run_ready : (s : FlatState) (h word : ℕ) (arch next : ArchState) → OfHart s h (IsInTry arch word) → IsDeed arch word (Run next) → OfHart s h (λ hart. EndsWith hart next)
+run_ready s h word arch next ready deed =
+    let w = some_and (slice_get s.harts h) _ ready in
+    let i = some_and (inst_of word) _ deed in
+    let hart : HartState = w.0 in
+    let inst : inst_in hart ≡ Some i.0 = ap (option_and_then inst_of) w.2.1 ∙ i.1 in
+    let want : built_want i.0 hart.arch ≡ Some Nothing = rw w.2.3 i.2.0 in
+    let wants : want_in hart ≡ Some Nothing = ap (option_and_then (λ (inst : Inst). built_want inst hart.arch)) inst ∙ want in
+    let looked : unwrap_or hart.looked 0 ≡ 0 = ap (λ (o : Option ℕ). unwrap_or o 0) w.2.2 in
+    let after : arch_after hart ≡ meaning_of i.0 arch 0 = ap (λ (o : Option Inst). arch_by o hart) inst ∙ plain_arch i.0 hart want ∙ ap (meaning_of i.0 hart.arch) looked ∙ ap (λ (a : ArchState). meaning_of i.0 a 0) w.2.3 in
+    and_some (slice_get s.harts h) _ hart w.1 (w.2.0, wants, i.2.1 ∙ sym after)
+
+-- what it asks for
+asked : (s : FlatState) (hart : HartState) (word : ℕ) (ask : Ask) → hart.fetched ≡ Some word → ask_of_word hart.arch word (inst_of word) ≡ Some ask → todo_by s hart ≡ todo_of ask hart
+asked s hart word ask f e = rw (f, e) refl
+
+pub trap_ready : (s : FlatState) (h word cause value : ℕ) (arch : ArchState) → OfHart s h (IsInTry arch word) → IsDeed arch word (Trap cause value)
+    → OfHart s h (λ hart. IsToDo s hart (Exactly (events.Trap cause value) ∷ []))
+trap_ready s h word cause value arch ready deed =
+    let w = some_and (slice_get s.harts h) _ ready in
+    let ask : ask_of_word w.0.arch word (inst_of word) ≡ Some (Stopped cause value) = rw w.2.3 deed in
+    and_some (slice_get s.harts h) _ w.0 w.1 (w.2.0, asked s w.0 word (Stopped cause value) w.2.1 ask)
+
+-- of a pc that is no text, of a machine at rest
+pub fault_ready : (s : FlatState) (h pc : ℕ) → IsResting s → IsStart s h (Fault pc) → OfHart s h (λ hart. IsToDo s hart (Exactly (events.Trap 12 pc) ∷ []))
+fault_ready s h pc r ready =
+    let w = some_and (slice_get s.harts h) _ ready in
+    let none = no_try_of s.harts h w.0 r.no_try w.1 in
+    let read : word_at (text_of s w.0.generation) w.0.arch.pc ≡ None = rw w.2.1 w.2.2 in
+    let todo : todo_by s w.0 ≡ Some (Exactly (events.Trap 12 w.0.arch.pc) ∷ []) = rw (none, read) refl in
+    and_some (slice_get s.harts h) _ w.0 w.1 (w.2.0, subst (λ (a : ℕ). todo_by s w.0 ≡ Some (Exactly (events.Trap 12 a) ∷ [])) w.2.1 todo)
+
+-- of a word of its text, of a machine at rest
+pub word_ready : (s : FlatState) (h word : ℕ) (arch : ArchState) → IsResting s → IsStart s h (Word arch word) → OfHart s h (λ hart. IsAt s hart arch.pc word × (hart.arch ≡ arch))
+word_ready s h word arch r ready =
+    let w = some_and (slice_get s.harts h) _ ready in
+    let none = no_try_of s.harts h w.0 r.no_try w.1 in
+    and_some (slice_get s.harts h) _ w.0 w.1 ((w.2.0, none, sym (ap (λ (a : ArchState). a.pc) w.2.1), w.2.2), w.2.1)
+
+calling : (s : FlatState) (hart : HartState) (word : ℕ) → hart.fetched ≡ Some word → inst_of word ≡ Some Ecall → todo_by s hart ≡ todo_of_call (slice_index hart.arch.x 17) (slice_index hart.arch.x 10) hart.arch.pc
+calling s hart word f e = asked s hart word Called f (rw e refl)
+
+todo_exit : (number first pc code : ℕ) → number ≡ 0 → code ≡ first → todo_of_call number first pc ≡ Some (Exactly (events.Exit code) ∷ [])
+todo_exit number first pc code n c = rw (n, c) refl
+
+todo_out : (number first pc byte : ℕ) → number ≡ 1 → byte ≡ first % 256 → todo_of_call number first pc ≡ Some (Exactly (events.Out byte) ∷ Exactly (events.End (next_pc pc)) ∷ [])
+todo_out number first pc byte n b = rw (n, b) refl
+
+todo_own : (number first pc : ℕ) → number ≡ 4 → todo_of_call number first pc ≡ Some (Exactly (events.End (next_pc pc)) ∷ [])
+todo_own number first pc n = rw n refl
+
+by_above : (number : ℕ) → 8 < number → ((number == 0) ≡ false) × ((number == 1) ≡ false) × ((number == 4) ≡ false) × (nat_lt 8 number ≡ true)
+by_above number h = (grind (arith, nat_tests), grind (arith, nat_tests), grind (arith, nat_tests), grind (arith, nat_tests))
+
+todo_refused : (number first pc : ℕ) → 8 < number → todo_of_call number first pc ≡ Some (Exactly (events.Refused (Number number)) ∷ Exactly (events.End (next_pc pc)) ∷ [])
+todo_refused number first pc h = let t = by_above number h in rw (t.0, t.1, t.2, t.3) refl
+
+not_four : (number : ℕ) → 8 < number → (number == 4) ≡ false
+not_four number h = grind (arith, nat_tests)
+
+-- the registers behind a call
+behind : (hart : HartState) (word answer : ℕ) → hart.fetched ≡ Some word → inst_of word ≡ Some Ecall → call_answer hart ≡ answer → called hart.arch answer ≡ arch_after hart
+behind hart word answer f e a =
+    let inst : inst_in hart ≡ Some Ecall = ap (option_and_then inst_of) f ∙ e in
+    sym (ap (λ (o : Option Inst). arch_by o hart) inst ∙ ap (called hart.arch) a)
+
+pub exit_ready : (s : FlatState) (h word code : ℕ) (arch : ArchState) → OfHart s h (IsInTry arch word) → IsDeed arch word (Exit code) → OfHart s h (λ hart. IsToDo s hart (Exactly (events.Exit code) ∷ []))
+exit_ready s h word code arch ready deed =
+    let w = some_and (slice_get s.harts h) _ ready in
+    let number : slice_index w.0.arch.x 17 ≡ 0 = rw w.2.3 deed.1 in
+    let first : code ≡ slice_index w.0.arch.x 10 = rw w.2.3 deed.2 in
+    and_some (slice_get s.harts h) _ w.0 w.1 (w.2.0, calling s w.0 word w.2.1 deed.0 ∙ todo_exit _ _ _ code number first)
+
+pub out_ready : (s : FlatState) (h word byte : ℕ) (arch next : ArchState) → OfHart s h (IsInTry arch word) → IsDeed arch word (Out byte) → next ≡ called arch 0
+    → OfHart s h (λ hart. IsToDo s hart (Exactly (events.Out byte) ∷ Exactly (events.End next.pc) ∷ []) × (next ≡ arch_after (answered 0 hart)))
+out_ready s h word byte arch next ready deed n =
+    let w = some_and (slice_get s.harts h) _ ready in
+    let number : slice_index w.0.arch.x 17 ≡ 1 = rw w.2.3 deed.1 in
+    let first : byte ≡ slice_index w.0.arch.x 10 % 256 = rw w.2.3 deed.2 in
+    let pc : next_pc w.0.arch.pc ≡ next.pc = ap (λ (a : ArchState). next_pc a.pc) w.2.3 ∙ sym (ap (λ (a : ArchState). a.pc) n) in
+    let todo = calling s w.0 word w.2.1 deed.0 ∙ todo_out _ _ w.0.arch.pc byte number first in
+    let answer : call_answer (answered 0 w.0) ≡ 0 = rw number refl in
+    let after : called w.0.arch 0 ≡ arch_after (answered 0 w.0) = behind (answered 0 w.0) word 0 w.2.1 deed.0 answer in
+    and_some (slice_get s.harts h) _ w.0 w.1 ((w.2.0, subst (λ (pc : ℕ). todo_by s w.0 ≡ Some (Exactly (events.Out byte) ∷ Exactly (events.End pc) ∷ [])) pc todo), n ∙ sym (ap (λ (a : ArchState). called a 0) w.2.3) ∙ after)
+
+pub own_ready : (s : FlatState) (h word own : ℕ) (arch next : ArchState) → OfHart s h (IsInTry arch word) → IsDeed arch word OwnGeneration → OfHart s h (λ hart. own ≡ hart.generation) → next ≡ called arch own
+    → OfHart s h (λ hart. IsToDo s hart (Exactly (events.End next.pc) ∷ []) × (next ≡ arch_after hart))
+own_ready s h word own arch next ready deed owned n =
+    let w = some_and (slice_get s.harts h) _ ready in
+    let v = some_and (slice_get s.harts h) _ owned in
+    let same : v.0 ≡ w.0 = cc in
+    let is_own : own ≡ w.0.generation = v.2 ∙ ap (λ (x : HartState). x.generation) same in
+    let number : slice_index w.0.arch.x 17 ≡ 4 = rw w.2.3 deed.1 in
+    let pc : next_pc w.0.arch.pc ≡ next.pc = ap (λ (a : ArchState). next_pc a.pc) w.2.3 ∙ sym (ap (λ (a : ArchState). a.pc) n) in
+    let todo = calling s w.0 word w.2.1 deed.0 ∙ todo_own _ (slice_index w.0.arch.x 10) w.0.arch.pc number in
+    let answer : call_answer w.0 ≡ own = rw number (sym is_own) in
+    let after : called w.0.arch own ≡ arch_after w.0 = behind w.0 word own w.2.1 deed.0 answer in
+    and_some (slice_get s.harts h) _ w.0 w.1 ((w.2.0, subst (λ (pc : ℕ). todo_by s w.0 ≡ Some (Exactly (events.End pc) ∷ [])) pc todo), n ∙ sym (ap (λ (a : ArchState). called a own) w.2.3) ∙ after)
+
+pub refuse_ready : (s : FlatState) (h word number : ℕ) (arch next : ArchState) → OfHart s h (IsInTry arch word) → IsDeed arch word (Refuse number) → next ≡ called arch (refused_answer (Number number))
+    → OfHart s h (λ hart. IsToDo s hart (Exactly (events.Refused (Number number)) ∷ Exactly (events.End next.pc) ∷ []) × (next ≡ arch_after (answered (refused_answer (Number number)) hart)))
+refuse_ready s h word number arch next ready deed n =
+    let w = some_and (slice_get s.harts h) _ ready in
+    let answer : ℕ = refused_answer (Number number) in
+    let is : number ≡ slice_index w.0.arch.x 17 = rw w.2.3 deed.1 in
+    let above : 8 < slice_index w.0.arch.x 17 = rw (← is) deed.2 in
+    let pc : next_pc w.0.arch.pc ≡ next.pc = ap (λ (a : ArchState). next_pc a.pc) w.2.3 ∙ sym (ap (λ (a : ArchState). a.pc) n) in
+    let todo : todo_by s w.0 ≡ Some (Exactly (events.Refused (Number number)) ∷ Exactly (events.End (next_pc w.0.arch.pc)) ∷ [])
+    = calling s w.0 word w.2.1 deed.0 ∙ todo_refused (slice_index w.0.arch.x 17) (slice_index w.0.arch.x 10) w.0.arch.pc above
+    ∙ ap (λ (k : ℕ). Some (Exactly (events.Refused (Number k)) ∷ Exactly (events.End (next_pc w.0.arch.pc)) ∷ [])) (sym is) in
+    let other : (slice_index w.0.arch.x 17 == 4) ≡ false = not_four (slice_index w.0.arch.x 17) above in
+    let answers : call_answer (answered answer w.0) ≡ answer = rw other refl in
+    let after : called w.0.arch answer ≡ arch_after (answered answer w.0) = behind (answered answer w.0) word answer w.2.1 deed.0 answers in
+    and_some (slice_get s.harts h) _ w.0 w.1 ((w.2.0, subst (λ (pc : ℕ). todo_by s w.0 ≡ Some (Exactly (events.Refused (Number number)) ∷ Exactly (events.End pc) ∷ [])) pc todo), n ∙ sym (ap (λ (a : ArchState). called a answer) w.2.3) ∙ after)
+
+-- a hart with these registers is at a word that is not built
+pub meets_unbuilt_word : (s : FlatState) (h word : ℕ) (arch : ArchState) → OfHart s h (λ hart. IsAt s hart arch.pc word × (hart.arch ≡ arch)) → ((hart : HartState) → hart.arch ≡ arch → IsUnbuiltInst hart (inst_of word)) → IsUnbuilt s h arch.pc
+meets_unbuilt_word s h word arch ready none =
+    let w = some_and (slice_get s.harts h) _ ready in
+    let read : word_at (text_of s w.0.generation) w.0.arch.pc ≡ Some word = subst (λ (a : ℕ). word_at (text_of s w.0.generation) a ≡ Some word) w.2.0.2 w.2.0.3 in
+    let unbuilt : IsUnbuiltWord w.0 (word_at (text_of s w.0.generation) w.0.arch.pc) = subst (IsUnbuiltWord w.0) (sym read) (none w.0 w.2.1) in
+    and_some (slice_get s.harts h) _ w.0 w.1 (w.2.0.0, w.2.0.1, w.2.0.2, subst (λ (a : ℕ). IsUnbuiltWord w.0 (word_at (text_of s w.0.generation) a)) (sym w.2.0.2) unbuilt)
+
+-- behind its fetch it is in a try of the word
+pub fetched_ready : (s new : FlatState) (h word : ℕ) (arch : ArchState) → OfHart s h (λ hart. IsAt s hart arch.pc word × (hart.arch ≡ arch)) → slice_get new.harts h ≡ option_map (fetched_with word) (slice_get s.harts h) → OfHart new h (IsInTry arch word)
+fetched_ready s new h word arch ready e =
+    let w = some_and (slice_get s.harts h) _ ready in
+    let is : slice_get new.harts h ≡ Some (fetched_with word w.0) = e ∙ ap (option_map (fetched_with word)) w.1 in
+    and_some (slice_get new.harts h) _ (fetched_with word w.0) is (w.2.0.0, refl, refl, w.2.1)
