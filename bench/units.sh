@@ -1,8 +1,9 @@
 #!/bin/sh
 # A program for UNITS units, RUNS times (20): microseconds a run, the report's bytes, and the peak of memory.
-# NAME is idle, the example of three instructions, of whose units all but three are idle; or loop, a sum and
-# a branch back, without end. It wants the program that `rt ci` left in crates/wfpatch/out, and GNU time. Run
-# it at the top of the repository: bench/units.sh NAME UNITS [RUNS]
+# NAME is idle, the example of three instructions, of whose units all but three are idle; loop, a sum and a
+# branch back, without end; or memory, a store on the stack, a load of it, a sum and a jump back, without end.
+# It wants the program that `rt ci` left in crates/wfpatch/out, and GNU time. Run it at the top of the
+# repository: bench/units.sh NAME UNITS [RUNS]
 set -eu
 name=$1
 units=$2
@@ -16,6 +17,15 @@ loop)
     # addi x1, x1, 1; bne x1, x0, -4; addi x0, x0, 0: as long as the example's text
     head -c 4096 crates/wfpatch/data/prog.elf >"$folder/prog.elf"
     printf '\223\200\020\000\343\236\000\376\023\000\000\000' >>"$folder/prog.elf"
+    ;;
+memory)
+    # sd x5, -8(x2); ld x6, -8(x2); addi x5, x5, 1; jal x0, -12: x2 is where the stack ends. The text is of 16
+    # bytes, not 12 as the example's: so say its sizes in the file, at 96, and in memory, at 104
+    head -c 4096 crates/wfpatch/data/prog.elf >"$folder/prog.elf"
+    for place in 96 104; do
+        printf '\020' | dd of="$folder/prog.elf" bs=1 seek=$place conv=notrunc status=none
+    done
+    printf '\043\074\121\376\003\063\201\377\223\202\022\000\157\360\137\377' >>"$folder/prog.elf"
     ;;
 *)
     echo "no program $name" >&2

@@ -1,5 +1,5 @@
 -- The image is that of the headers, in whatever order the segments are kept.
-use Rattle.std.proofs.Common.{◌≡◌, ℕ, zero, suc, cond, ◌<◌, ◌≤◌, ◌+◌, ◌-◌, ◌*◌, ◌/◌, List, [], ◌∷◌, ◌++◌, Bool, true, false, true≢false, not, ◌||◌, ◌&&◌, refl, sym, ap, ◌∙◌, length, get_or, arith}
+use Rattle.std.proofs.Common.{◌≡◌, ℕ, cond, ◌*◌, List, [], ◌∷◌, Bool, true, false, true≢false, not, ◌||◌, ◌&&◌, refl, sym, ap, ◌∙◌, length, arith}
 use mathlib.Core.Path.{fun_ext}
 use Rattle.std.specs.Prelude.{◌==◌, Option, None, Some, map}
 use Rattle.std.specs.List.{AllByRecursion, filter, find, list_any}
@@ -11,8 +11,8 @@ use Rattle.wf_outside.specs.declared.image.Name.{Name}
 use Rattle.wf_outside.specs.Pages.{PageValue, DataPageValue}
 use Rattle.wf_outside.specs.Images.{ImageValue}
 use Rattle.elf_load.specs.Segments.{loads_of, meets, is_executable, is_writable, is_met, is_text, is_data, may_write}
-use Rattle.elf_load.specs.Placing.{is_placeable, goes_before, IsRising, HasSame, ArePlaced}
-use Rattle.elf_load.specs.Loaded.{holds, given, byte_at, bytes_at, words_in, page_words, text_page, data_page, pages_below, page_behind, is_defined, name_of, image_with, image_of}
+use Rattle.elf_load.specs.Placing.{is_placeable, goes_before, IsRising, ArePlaced}
+use Rattle.elf_load.specs.Loaded.{holds, given, byte_at, words_in, page_words, text_page, data_page, pages_below, page_behind, is_defined, name_of, image_with, image_of}
 use Rattle.elf_load.proofs.FillingLemmas.{holds_apart}
 use Rattle.elf_load.proofs.PageLemmas.{bytes_alike}
 

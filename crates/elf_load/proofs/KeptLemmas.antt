@@ -1,7 +1,7 @@
 -- What an image keeps.
-use Rattle.std.proofs.Common.{◌≡◌, ℕ, zero, suc, cond, ◌<◌, ◌≤◌, ◌+◌, ◌*◌, ◌/◌, ◌%◌, List, [], ◌∷◌, ◌++◌, Bool, true, false, true≢false, not, ◌||◌, ◌&&◌, refl, sym, subst, ap, ◌∙◌, length, get_or, arith, map, nat_eq}
+use Rattle.std.proofs.Common.{◌≡◌, ℕ, zero, suc, cond, ◌<◌, ◌≤◌, ◌+◌, ◌/◌, ◌%◌, List, [], ◌∷◌, ◌++◌, Bool, true, false, true≢false, ◌||◌, ◌&&◌, refl, sym, subst, ap, ◌∙◌, arith, map, nat_eq}
 use Rattle.std.specs.Prelude.{◌==◌}
-use Rattle.std.specs.List.{All, AllByRecursion, Contains, IsDistinct, filter, list_any, range_with_len}
+use Rattle.std.specs.List.{All, AllByRecursion, Contains, IsDistinct, filter, range_with_len}
 use Rattle.std.proofs.lemmas.Bool.Decides.{nat_tests}
 use Rattle.elf_read.specs.declared.records.Segment.{Segment}
 use Rattle.wf_outside.specs.Pages.{PageValue, DataPageValue}

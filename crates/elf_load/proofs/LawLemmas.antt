@@ -1,16 +1,14 @@
 -- Where no rule is broken, no address is held by two segments.
-use Rattle.std.proofs.Common.{◌≡◌, ℕ, cond, ◌<◌, ◌≤◌, ◌+◌, ◌-◌, ◌⊎◌, inl, inr, List, [], ◌∷◌, ◌++◌, Bool, true, false, true≢false, not, ◌||◌, ◌&&◌, refl, sym, subst, ap, ◌∙◌, length, append-nil, append_assoc, get_or, arith}
+use Rattle.std.proofs.Common.{◌≡◌, ℕ, cond, ◌<◌, ◌≤◌, ◌+◌, ◌⊎◌, inl, inr, List, [], ◌∷◌, ◌++◌, Bool, true, false, true≢false, ◌||◌, ◌&&◌, refl, sym, subst, ap, ◌∙◌, length, append-nil, append_assoc, get_or, arith}
 use Rattle.std.specs.Prelude.{Option, None, Some}
-use Rattle.std.specs.Bool.{then_some}
-use Rattle.std.specs.List.{All, AllByRecursion, Contains, filter, find, list_any}
-use Rattle.std.specs.Option.{option_map, option_map_or, option_or}
+use Rattle.std.specs.List.{All, AllByRecursion, Contains, find, list_any}
+use Rattle.std.specs.Option.{option_map_or, option_or}
 use Rattle.std.proofs.lemmas.List.Elements.{Contains-push_cases, All-contains, All-from_recursion, filter-append, recursion_from_All}
 use Rattle.std.proofs.lemmas.Bool.Decides.{nat_tests}
 use Rattle.elf_read.specs.declared.records.Segment.{Segment}
 use Rattle.elf_read.specs.Elf.{ElfValue, FitsFile}
-use Rattle.wf_outside.specs.declared.rules.LoadRule.{LoadRule}
 use Rattle.wf_outside.specs.declared.rules.LoadRule.TheVariants.{SharedPage}
-use Rattle.elf_load.specs.Segments.{is_load, loads_of, end_of, share_byte, clash}
+use Rattle.elf_load.specs.Segments.{is_load, loads_of, share_byte, clash}
 use Rattle.elf_load.specs.Rules.{first_fault, header_fault, shared_page, linked, write_and_run, high_address, too_large, entry_fault, first_of, fault_of}
 use Rattle.elf_load.specs.Loaded.{holds, given, byte_at}
 use Rattle.elf_load.proofs.PlacingLemmas.{none_here, none_behind}

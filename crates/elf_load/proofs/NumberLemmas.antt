@@ -1,7 +1,7 @@
 -- The numbers of pages.
-use Rattle.std.proofs.Common.{◌≡◌, ℕ, zero, suc, cond, ◌<◌, ◌≤◌, ◌+◌, List, [], ◌∷◌, ◌++◌, Bool, true, false, not, ◌||◌, ◌&&◌, refl, sym, ap, ◌∙◌, length, take, take_all, get_or, arith, map}
-use Rattle.std.specs.Prelude.{◌-◌, Option, None, Some, slice_get}
-use Rattle.std.specs.List.{All, filter, list_any, range_with_len, last_or}
+use Rattle.std.proofs.Common.{◌≡◌, ℕ, cond, ◌<◌, ◌≤◌, List, [], ◌∷◌, Bool, true, false, not, ◌||◌, ◌&&◌, refl, sym, ap, ◌∙◌, length, take, take_all, get_or, arith, map}
+use Rattle.std.specs.Prelude.{◌-◌, None, Some, slice_get}
+use Rattle.std.specs.List.{All, filter, range_with_len, last_or}
 use Rattle.std.proofs.lemmas.List.Elements.{All-filter, All-get_or, filter_agree, All-from_get_or}
 use Rattle.std.proofs.lemmas.List.FromFn.{length-range_with_len, get_or-range_with_len}
 use Rattle.elf_read.specs.declared.records.Segment.{Segment}

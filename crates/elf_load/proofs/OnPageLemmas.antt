@@ -1,11 +1,11 @@
 -- The segments that meet one page.
-use Rattle.std.proofs.Common.{◌≡◌, ℕ, zero, suc, cond, ◌<◌, ◌≤◌, ◌+◌, ◌-◌, List, [], ◌∷◌, ◌++◌, Bool, true, false, not, ◌||◌, ◌&&◌, refl, sym, ap, ◌∙◌, length, take, drop, get_or, arith}
+use Rattle.std.proofs.Common.{◌≡◌, ℕ, zero, suc, ◌<◌, ◌≤◌, ◌+◌, ◌-◌, List, [], ◌∷◌, Bool, true, false, refl, sym, ap, ◌∙◌, length, take, drop, get_or, arith}
 use Rattle.std.specs.Prelude.{nat_le, nat_lt}
-use Rattle.std.specs.List.{AllByRecursion, filter, list_any}
+use Rattle.std.specs.List.{AllByRecursion, filter}
 use Rattle.std.specs.List.Sorted.{IsPartitionPoint, IsPartitionedBy}
 use Rattle.std.proofs.lemmas.Bool.Decides.{nat_tests}
 use Rattle.elf_read.specs.declared.records.Segment.{Segment}
-use Rattle.elf_load.specs.Segments.{is_load, first_page, page_after, meets, is_met}
+use Rattle.elf_load.specs.Segments.{is_load, first_page, page_after, meets}
 use Rattle.elf_load.specs.Placing.{goes_before, IsRising}
 use Rattle.elf_load.proofs.PlacingLemmas.{load_pages, pages_rise, next_page, goes_ends, no_segment}
 use Rattle.elf_load.proofs.PagingLemmas.{AreLoads}

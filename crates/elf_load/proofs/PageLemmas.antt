@@ -1,15 +1,14 @@
 -- Pages from the segments that meet them.
-use Rattle.std.proofs.Common.{◌≡◌, ℕ, zero, suc, cond, ◌<◌, ◌≤◌, ◌+◌, ◌-◌, ◌*◌, ◌/◌, List, [], ◌∷◌, ◌++◌, Bool, true, false, not, ◌||◌, ◌&&◌, refl, sym, ap, ◌∙◌, length, append-nil, arith}
-use Rattle.std.specs.Prelude.{nat_le, nat_lt, Option, None, Some, map}
+use Rattle.std.proofs.Common.{◌≡◌, ℕ, zero, suc, cond, ◌<◌, ◌≤◌, ◌+◌, ◌*◌, ◌/◌, List, [], ◌∷◌, ◌++◌, Bool, true, false, ◌||◌, ◌&&◌, refl, sym, ap, ◌∙◌, length, append-nil, arith}
+use Rattle.std.specs.Prelude.{Some, map}
 use Rattle.std.specs.List.{AllByRecursion, filter, find, list_any, range_with_len}
 use Rattle.std.specs.Option.{option_map_or}
 use Rattle.std.proofs.lemmas.Bool.Decides.{nat_tests}
 use Rattle.elf_read.specs.declared.records.Segment.{Segment}
 use Rattle.wf_outside.specs.Pages.{PageValue, DataPageValue}
-use Rattle.elf_load.specs.Segments.{is_load, end_of, meets, is_executable, is_writable, is_text, may_write}
+use Rattle.elf_load.specs.Segments.{end_of, meets, is_executable, is_writable, is_text, may_write}
 use Rattle.elf_load.specs.Placing.{is_placeable, goes_before, IsRising}
 use Rattle.elf_load.specs.Loaded.{holds, given, byte_at, bytes_at, words_in, page_words, text_page, data_page}
-use Rattle.elf_load.proofs.PagingLemmas.{ends_low}
 use Rattle.elf_load.proofs.FillingLemmas.{fits_memory}
 
 -- what holds of each holds of each that is kept

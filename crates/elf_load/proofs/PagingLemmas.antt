@@ -2,7 +2,7 @@
 use Rattle.std.proofs.Common.{◌≡◌, ℕ, zero, suc, cond, ◌<◌, ◌≤◌, ◌+◌, ◌-◌, max, List, [], ◌∷◌, ◌++◌, Bool, true, false, ◌||◌, ◌&&◌, refl, sym, ap, ◌∙◌, append_assoc, append-nil, length, drop, arith}
 use Rattle.std.specs.Prelude.{nat_le}
 use Rattle.std.proofs.lemmas.List.{drop_all}
-use Rattle.std.specs.List.{AllByRecursion, filter, range_with_len, list_any}
+use Rattle.std.specs.List.{AllByRecursion, filter, range_with_len}
 use Rattle.std.proofs.lemmas.List.Elements.{filter-append}
 use Rattle.std.proofs.lemmas.Bool.Decides.{nat_tests}
 use Rattle.elf_read.specs.declared.records.Segment.{Segment}
@@ -41,9 +41,6 @@ range-push a b h =
 pub ruleset range_steps = (range-push, append_assoc)
 
 -- no test passes, or each, or two agree, over a range
-abbrev InRange : ℕ → ℕ → ℕ → Type 0
-InRange a n k = (a ≤ k) × (k < a + n)
-
 filter_none : (p : ℕ → Bool) (a n : ℕ) → ((k : ℕ) → a ≤ k → k < a + n → p k ≡ false) → filter p (range_with_len a n) ≡ []
 filter_none p a zero h = refl
 filter_none p a (suc n) h =

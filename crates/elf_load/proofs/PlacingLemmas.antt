@@ -1,5 +1,5 @@
 -- Segments by rising address.
-use Rattle.std.proofs.Common.{◌≡◌, ℕ, cond, true≢false, get_or, take, take_all, append-nil, ◌<◌, ◌≤◌, ◌+◌, ◌/◌, ◌*◌, List, [], ◌∷◌, ◌++◌, Bool, true, false, not, ◌&&◌, ◌||◌, refl, sym, subst, ap, ◌∙◌, arith, length}
+use Rattle.std.proofs.Common.{◌≡◌, ℕ, cond, true≢false, get_or, take, take_all, append-nil, ◌<◌, ◌≤◌, ◌+◌, List, [], ◌∷◌, ◌++◌, Bool, true, false, not, ◌&&◌, ◌||◌, refl, sym, subst, ap, ◌∙◌, arith, length}
 use Rattle.std.specs.Prelude.{nat_le, nat_lt, Option, None, Some, slice_get}
 use Rattle.std.specs.Bool.{beq, then_some}
 use Rattle.std.specs.Option.{option_map, option_map_or, option_or}

@@ -1,5 +1,5 @@
 -- The image of a file, byte by byte (System V ABI, "Program Header").
-use Rattle.std.specs.Prelude.{ℕ, List, [], Bool, true, not, ◌&&◌, ◌+◌, ◌-◌, ◌*◌, ◌/◌, ◌==◌, Option, Some, None, map, nat_lt, nat_le, slice_index, slice_range, drop}
+use Rattle.std.specs.Prelude.{ℕ, List, Bool, not, ◌&&◌, ◌+◌, ◌-◌, ◌*◌, ◌/◌, ◌==◌, None, map, nat_lt, nat_le, slice_index, slice_range, drop}
 use Rattle.std.specs.List.{filter, find, range_with_len, last_or}
 use Rattle.std.specs.Option.{option_map_or}
 use Rattle.byteorder.specs.Endian.{little_number}

@@ -1,5 +1,5 @@
 -- The rules of loading, and the first that a file breaks.
-use Rattle.std.specs.Prelude.{◌≡◌, ℕ, List, [], ◌∷◌, ◌++◌, Bool, not, ◌&&◌, ◌+◌, ◌/◌, ◌%◌, ◌==◌, Option, Some, None, if◌then◌else◌, length, sum_by, nat_lt}
+use Rattle.std.specs.Prelude.{◌≡◌, ℕ, List, [], ◌∷◌, ◌++◌, ◌&&◌, ◌+◌, ◌/◌, ◌%◌, ◌==◌, Option, Some, None, if◌then◌else◌, length, sum_by, nat_lt}
 use Rattle.std.specs.Bool.{then_some}
 use Rattle.std.specs.List.{list_any}
 use Rattle.std.specs.Option.{option_or, option_map}

@@ -32,13 +32,13 @@ rising_le xs up i j le h = elim (cases_order i j) [
   | inr o ↦ (elim o [ inl lt ↦ (let k : get_or xs i 0 < get_or xs j 0 = rising_at xs i j up lt h in omega arith) | inr gt ↦ absurd (omega arith) ])
 ]
 
-with_past : (n m : ℕ) (ms : List ℕ) → m < n → with_number n (m ∷ ms) ≡ m ∷ with_number n ms
+pub with_past : (n m : ℕ) (ms : List ℕ) → m < n → with_number n (m ∷ ms) ≡ m ∷ with_number n ms
 with_past n m ms h = grind (arith, nat_tests)
 
-with_same : (n m : ℕ) (ms : List ℕ) → m ≡ n → with_number n (m ∷ ms) ≡ m ∷ ms
+pub with_same : (n m : ℕ) (ms : List ℕ) → m ≡ n → with_number n (m ∷ ms) ≡ m ∷ ms
 with_same n m ms h = grind (arith, nat_tests)
 
-with_here : (n m : ℕ) (ms : List ℕ) → n < m → with_number n (m ∷ ms) ≡ n ∷ m ∷ ms
+pub with_here : (n m : ℕ) (ms : List ℕ) → n < m → with_number n (m ∷ ms) ≡ n ∷ m ∷ ms
 with_here n m ms h = grind (arith, nat_tests)
 
 -- the number is there

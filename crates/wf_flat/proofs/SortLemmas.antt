@@ -191,9 +191,13 @@ pub length-map : {A : Type 0} (number : A → ℕ) (xs : List A) → length (map
 length-map number [] = refl
 length-map number (x ∷ xs) = ap suc (length-map number xs)
 
+-- what lies below n does so sorted
+pub low_sorted : {A : Type 0} (number : A → ℕ) (n : ℕ) (xs : List A) → All (λ m. m < n) (map number xs) → AllByRecursion (λ m. m < n) (map number (sorted_by number xs))
+low_sorted number n xs low = low_map number n (sorted_by number xs) (all_sorted (λ x. number x < n) number xs (low_from_map number n xs (recursion_from_All (λ m. m < n) (map number xs) low)))
+
 -- there are at most n elements whose distinct numbers are below n
 pub length_distinct : {A : Type 0} (number : A → ℕ) (n : ℕ) (xs : List A) → IsDistinct nat_eq (map number xs) → All (λ m. m < n) (map number xs) → length xs ≤ n
 length_distinct number n xs apart low =
     let numbers = map number (sorted_by number xs) in
-    let small : AllByRecursion (λ m. m < n) numbers = low_map number n (sorted_by number xs) (all_sorted (λ x. number x < n) number xs (low_from_map number n xs (recursion_from_All (λ m. m < n) (map number xs) low))) in
+    let small : AllByRecursion (λ m. m < n) numbers = low_sorted number n xs low in
     omega (arith, length-rising n numbers (IsRising-sorted_by number xs apart) small, length-map number (sorted_by number xs), length-sorted_by number xs)

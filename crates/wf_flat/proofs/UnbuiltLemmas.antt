@@ -4,19 +4,18 @@ use Rattle.std.specs.Prelude.{MatchBool, slice_get, slice_index, option_and_then
 use Rattle.std.proofs.lemmas.Bool.Decides.{nat_tests}
 use Rattle.rv_inst.specs.declared.inst.Inst.{Inst}
 use Rattle.rv_inst.specs.declared.inst.Inst.TheVariants.{Lui, Auipc, Jal, Jalr, Branch, Load, Store, AluImm, Alu, Amo, Lr, Sc, Fence, FenceI, Ecall, Ebreak}
-use Rattle.rv_inst.specs.declared.want.Want.TheVariants.{Nothing}
 use Rattle.rv_inst.specs.Arch.{ArchState}
 use Rattle.rv_inst.specs.Decoding.{inst_of}
-use Rattle.wf_outside.specs.Pages.{PageValue}
 use Rattle.wf_flat.specs.declared.event.Actor.{Actor}
 use Rattle.wf_flat.specs.declared.event.Actor.TheVariants.{Hart}
 use Rattle.wf_flat.specs.declared.event.Event.{Event}
-use Rattle.wf_flat.specs.declared.event.Event.TheVariants.{Fetch, End, Enter, Idle}
+use Rattle.wf_flat.specs.declared.event.Event.TheVariants.{Fetch, Look, Take, Put, End, Enter, Idle}
 use Rattle.wf_flat.specs.declared.event.Entry.{Entry}
 use Rattle.wf_flat.specs.declared.state.Life.TheVariants.{Running}
 use Rattle.wf_flat.specs.State.{FlatState, HartState}
 use Rattle.wf_flat.specs.Memory.{word_at}
-use Rattle.wf_flat.specs.Steps.{MayAct, Ask, Called, want_in, built_want, ask_of, ask_of_word, text_of, fetched_with, change_hart, is_inside}
+use Rattle.wf_flat.specs.Accesses.{Access, access_of}
+use Rattle.wf_flat.specs.Steps.{MayAct, Ask, Called, want_in, access_in, built_want, is_done, ask_of, ask_by, ask_of_word, ask_of_want, text_of, fetched_with, change_hart, is_inside}
 use Rattle.wf_flat.specs.Built.{is_built_call}
 use Rattle.wf_flat.specs.Calls.{Settling, Todo, IsNext, todo_left, todo_by, todo_of, todo_of_call}
 use Rattle.wf_flat.specs.Legal.{Moment, Allows, IsLegal, after, at_rest}
@@ -24,7 +23,7 @@ use Rattle.wf_flat.specs.Follows.{IsUnit, ends_unit}
 use Rattle.wf_flat.specs.Unbuilt.{IsUnbuiltInst, IsUnbuiltWord}
 use Rattle.wf_flat.specs.Laws.{UnbuiltHasNoUnit}
 use Rattle.wf_flat.proofs.HartLemmas.{changed_get}
-use Rattle.wf_flat.proofs.DeterminedLemmas.{some_and, no_want, no_ask}
+use Rattle.wf_flat.proofs.DeterminedLemmas.{some_and, May, may_hart, taking, fetch_access, not_done, no_ask}
 
 -- no event is allowed, so there is no unit
 stuck : (m : Moment) (h : ℕ) → ((e : Event) → Allows m (Hart h) e → ⊥) → (unit : List Entry) → IsUnit h unit → IsLegal m unit → ⊥
@@ -69,33 +68,45 @@ not_built_by (AluImm op rd rs1 imm) hart p = absurd (cc)
 not_built_by (Fence raw) hart p = absurd (cc)
 not_built_by (FenceI raw) hart p = absurd (cc)
 not_built_by Ebreak hart p = absurd (cc)
-not_built_by (Load width sign rd rs1 off) hart p = inl refl
-not_built_by (Store width rs1 rs2 off) hart p = inl refl
+not_built_by (Load width sign rd rs1 off) hart p = absurd (cc)
+not_built_by (Store width rs1 rs2 off) hart p = absurd (cc)
 not_built_by (Amo op wide aq rl rd rs1 rs2) hart p = inl refl
 not_built_by (Lr wide aq rl rd rs1) hart p = inl refl
 not_built_by (Sc wide aq rl rd rs1 rs2) hart p = inl refl
 not_built_by (Alu op rd rs1 rs2) hart p = inl (rw p refl)
 
--- in such a try the hart wants nothing that the machine runs, and asks for a call that is not built at most
-want_by : (o : Option Inst) (hart : HartState) → IsUnbuiltInst hart o → option_and_then (λ (inst : Inst). built_want inst hart.arch) o ≡ Some Nothing → ⊥
-want_by None hart p e = p
-want_by (Some inst) hart p e = elim (not_built_by inst hart p) [
-  | inl none ↦ absurd (cc)
-  | inr call ↦ absurd (let same : built_want inst hart.arch ≡ built_want Ecall hart.arch = ap (λ (i : Inst). built_want i hart.arch) call.0 in cc)
+-- in such a try the hart has no access, has nothing done, and asks for a call that is not built at most
+no_access_by : (o : Option Inst) (hart : HartState) → IsUnbuiltInst hart o → access_of (option_and_then (λ (inst : Inst). built_want inst hart.arch) o) ≡ None
+no_access_by None hart p = absurd p
+no_access_by (Some inst) hart p = elim (not_built_by inst hart p) [
+  | inl none ↦ ap access_of none
+  | inr call ↦ ap (λ (i : Inst). access_of (built_want i hart.arch)) call.0
 ]
 
-ask_by_word : (o : Option Inst) (hart : HartState) (word : ℕ) → IsUnbuiltInst hart o → (ask_of_word hart.arch word o ≡ None) ⊎ ((ask_of_word hart.arch word o ≡ Some Called) × (is_built_call (slice_index hart.arch.x 17) ≡ false))
-ask_by_word None hart word p = absurd p
-ask_by_word (Some inst) hart word p = elim (not_built_by inst hart p) [
-  | inl none ↦ inl (rw none refl)
-  | inr call ↦ inr (rw call.0 refl, call.1)
+not_done_by : (o : Option Inst) (hart : HartState) → IsUnbuiltInst hart o → is_done hart (option_and_then (λ (inst : Inst). built_want inst hart.arch) o) ≡ false
+not_done_by None hart p = absurd p
+not_done_by (Some inst) hart p = elim (not_built_by inst hart p) [
+  | inl none ↦ ap (is_done hart) none
+  | inr call ↦ ap (λ (i : Inst). is_done hart (built_want i hart.arch)) call.0
 ]
 
-asks : (text : List PageValue) (hart : HartState) (word : ℕ) → hart.fetched ≡ Some word → ask_of text hart ≡ ask_of_word hart.arch word (inst_of word)
-asks text hart word e = rw e refl
+ask_by_word : (s : FlatState) (h : ℕ) (o : Option Inst) (hart : HartState) (word : ℕ) → IsUnbuiltInst hart o → (ask_of_word s h hart word o ≡ None) ⊎ ((ask_of_word s h hart word o ≡ Some Called) × (is_built_call (slice_index hart.arch.x 17) ≡ false))
+ask_by_word s h None hart word p = absurd p
+ask_by_word s h (Some inst) hart word p = elim (not_built_by inst hart p) [
+  | inl none ↦ inl (ap (ask_of_want s h hart) none)
+  | inr call ↦ inr (ap (λ (i : Inst). ask_of_word s h hart word (Some i)) call.0, call.1)
+]
 
-wants : (hart : HartState) (word : ℕ) → hart.fetched ≡ Some word → want_in hart ≡ option_and_then (λ (inst : Inst). built_want inst hart.arch) (inst_of word)
-wants hart word e = rw e refl
+asks : (s : FlatState) (h : ℕ) (hart : HartState) (word : ℕ) → hart.fetched ≡ Some word → ask_of s h hart ≡ ask_of_word s h hart word (inst_of word)
+asks s h hart word e = ap (ask_by s h hart) e
+
+no_access_in : (hart : HartState) (word : ℕ) (access : Access) → hart.fetched ≡ Some word → IsUnbuiltInst hart (inst_of word) → access_in hart ≡ Some access → ⊥
+no_access_in hart word access e p a =
+    let none : access_in hart ≡ None = rw e (no_access_by (inst_of word) hart p) in
+    cc
+
+not_done_in : (hart : HartState) (word : ℕ) → hart.fetched ≡ Some word → IsUnbuiltInst hart (inst_of word) → is_done hart (want_in hart) ≡ false
+not_done_in hart word e p = subst (λ (o : Option ℕ). is_done hart (option_and_then (λ (inst : Inst). built_want inst hart.arch) (option_and_then inst_of o)) ≡ false) (sym e) (not_done_by (inst_of word) hart p)
 
 same_unbuilt : (o : Option Inst) (one other : HartState) → one.arch ≡ other.arch → IsUnbuiltInst one o → IsUnbuiltInst other o
 same_unbuilt o one other e p = by_inst o p
@@ -120,81 +131,62 @@ same_unbuilt o one other e p = by_inst o p
     by_inst (Some Ebreak) p = p
 
 -- a call that is not built does nothing behind its Enter
-no_call : (s : FlatState) (h : ℕ) (hart : HartState) → slice_get s.harts h ≡ Some hart → ask_of (text_of s hart.generation) hart ≡ Some Called → is_built_call (slice_index hart.arch.x 17) ≡ false
+no_call : (s : FlatState) (h : ℕ) (hart : HartState) → slice_get s.harts h ≡ Some hart → ask_of s h hart ≡ Some Called → is_built_call (slice_index hart.arch.x 17) ≡ false
     → (unit : List Entry) → IsUnit h unit → IsLegal (record { flat = record s { inside = Some (Hart h) }; call = Some Settling }) unit → ⊥
 no_call s h hart is asked number unit u l =
-    let m : Moment = record { flat = record s { inside = Some (Hart h) }; call = Some Settling } in
-    let todo : todo_by m.flat hart ≡ None = ap (option_and_then (λ (ask : Ask). todo_of ask hart)) asked ∙ call_none (slice_index hart.arch.x 17) (slice_index hart.arch.x 10) hart.arch.pc number in
-    let none : todo_left m.flat (Hart h) m.call ≡ None = ap (option_and_then (λ (hart : HartState). todo_by m.flat hart)) is ∙ todo in
+    let flat : FlatState = record s { inside = Some (Hart h) } in
+    let m : Moment = record { flat = flat; call = Some Settling } in
+    let todo : todo_by flat h hart ≡ None = ap (option_and_then (λ (ask : Ask). todo_of flat hart ask)) asked ∙ call_none (slice_index hart.arch.x 17) (slice_index hart.arch.x 10) hart.arch.pc number in
+    let none : todo_left flat (Hart h) m.call ≡ None = ap (option_and_then (λ (hart : HartState). todo_by flat h hart)) is ∙ todo in
     stuck m h (nothing_inside m h (self_inside h) none) unit u l
 
 -- what the events that a hart may make in such a try lead to
-in_try : (s : FlatState) (h word : ℕ) (hart : HartState) → s.inside ≡ None → slice_get s.harts h ≡ Some hart → hart.fetched ≡ Some word → hart.life ≡ Running → IsUnbuiltInst hart (inst_of word)
-    → (e : Event) → MayAct s (Hart h) e → (ends_unit e ≡ false) × ((unit : List Entry) → IsUnit h unit → IsLegal (after (at_rest s) (Hart h) e) unit → ⊥)
-in_try s h word hart rest is fetched runs p (Fetch pc other) q =
-    let w = some_and (slice_get s.harts h) _ q in
-    let same : w.0 ≡ hart = cc in
-    absurd (let none : w.0.fetched ≡ None = w.2.1.0 in let some : w.0.fetched ≡ Some word = ap (λ (x : HartState). x.fetched) same ∙ fetched in cc)
-in_try s h word hart rest is fetched runs p (End pc) q =
-    let w = some_and (slice_get s.harts h) _ q in
-    let same : w.0 ≡ hart = cc in
-    let want : want_in hart ≡ Some Nothing = subst (λ (x : HartState). want_in x ≡ Some Nothing) same w.2.1.0 in
-    absurd (want_by (inst_of word) hart p (sym (wants hart word fetched) ∙ want))
-in_try s h word hart rest is fetched runs p Enter q =
-    let w = some_and (slice_get s.harts h) _ q in
-    let same : w.0 ≡ hart = cc in
-    let text : List PageValue = text_of s hart.generation in
-    let asked : ask_of text hart ≢ None = subst (λ (x : HartState). ask_of (text_of s x.generation) x ≢ None) same w.2.1.1 in
-    let ask = asks text hart word fetched in
-    elim (ask_by_word (inst_of word) hart word p) [
-      | inl none ↦ absurd (asked (ask ∙ none))
+in_try : (s : FlatState) (h word : ℕ) (hart : HartState) → slice_get s.harts h ≡ Some hart → hart.fetched ≡ Some word → hart.life ≡ Running → IsUnbuiltInst hart (inst_of word)
+    → (e : Event) → May s h hart e → (ends_unit e ≡ false) × ((unit : List Entry) → IsUnit h unit → IsLegal (after (at_rest s) (Hart h) e) unit → ⊥)
+in_try s h word hart is fetched runs p (Fetch pc other) q = absurd (let none : hart.fetched ≡ None = q.1.0 in cc)
+in_try s h word hart is fetched runs p (End pc) q = absurd (let no = not_done_in hart word fetched p in let done : is_done hart (want_in hart) ≡ true = q.1.0 in cc)
+in_try s h word hart is fetched runs p (Look va width value) q = absurd (no_access_in hart word _ fetched p q.1.0)
+in_try s h word hart is fetched runs p (Take page) q = absurd (no_access_in hart word _ fetched p (taking s hart page q.1).is_access)
+in_try s h word hart is fetched runs p (Put va width value) q = absurd (no_access_in hart word _ fetched p q.1.0)
+in_try s h word hart is fetched runs p Enter q =
+    let ask = asks s h hart word fetched in
+    elim (ask_by_word s h (inst_of word) hart word p) [
+      | inl none ↦ absurd (q.1.1 (ask ∙ none))
       | inr call ↦ (refl, no_call s h hart is (ask ∙ call.0) call.1)
     ]
-in_try s h word hart rest is fetched runs p Idle q =
-    let w = some_and (slice_get s.harts h) _ q in
-    let same : w.0 ≡ hart = cc in
-    absurd (w.2 (ap (λ (x : HartState). x.life) same ∙ runs))
-in_try s h word hart rest is fetched runs p e q = absurd q
+in_try s h word hart is fetched runs p Idle q = absurd (q runs)
+in_try s h word hart is fetched runs p e q = absurd q
 
 after_fetch : (s : FlatState) (h pc word : ℕ) → s.inside ≡ None → after (at_rest s) (Hart h) (Fetch pc word) ≡ at_rest (change_hart s h (fetched_with word))
 after_fetch s h pc word rest = rw rest refl
 
 -- a hart whose next word is not built asks for nothing before it has fetched it
-asked_at_text : (s : FlatState) (hart : HartState) (o : Option ℕ) → word_at (text_of s hart.generation) hart.arch.pc ≡ o → hart.fetched ≡ None → IsUnbuiltWord hart o → ask_of (text_of s hart.generation) hart ≢ None → ⊥
-asked_at_text s hart None read none p asked = p
-asked_at_text s hart (Some word) read none p asked = asked (no_ask (text_of s hart.generation) hart word none read)
+asked_at_text : (s : FlatState) (h : ℕ) (hart : HartState) (o : Option ℕ) → word_at (text_of s hart.generation) hart.arch.pc ≡ o → hart.fetched ≡ None → IsUnbuiltWord hart o → ask_of s h hart ≢ None → ⊥
+asked_at_text s h hart None read none p asked = p
+asked_at_text s h hart (Some word) read none p asked = asked (no_ask s h hart word none read)
 
 -- at the start of a try
 at_start : (s : FlatState) (h : ℕ) (hart : HartState) → s.inside ≡ None → slice_get s.harts h ≡ Some hart → hart.life ≡ Running → hart.fetched ≡ None → IsUnbuiltWord hart (word_at (text_of s hart.generation) hart.arch.pc)
-    → (e : Event) → MayAct s (Hart h) e → (ends_unit e ≡ false) × ((unit : List Entry) → IsUnit h unit → IsLegal (after (at_rest s) (Hart h) e) unit → ⊥)
+    → (e : Event) → May s h hart e → (ends_unit e ≡ false) × ((unit : List Entry) → IsUnit h unit → IsLegal (after (at_rest s) (Hart h) e) unit → ⊥)
 at_start s h hart rest is runs none p (Fetch at word) q =
-    let w = some_and (slice_get s.harts h) _ q in
-    let same : w.0 ≡ hart = cc in
-    let read : word_at (text_of s hart.generation) hart.arch.pc ≡ Some word = subst (λ (x : HartState). word_at (text_of s x.generation) x.arch.pc ≡ Some word) same (subst (λ (a : ℕ). word_at (text_of s w.0.generation) a ≡ Some word) w.2.1.1 w.2.1.2) in
+    let read : word_at (text_of s hart.generation) hart.arch.pc ≡ Some word = subst (λ (a : ℕ). word_at (text_of s hart.generation) a ≡ Some word) q.1.1 q.1.2 in
     let unbuilt : IsUnbuiltInst hart (inst_of word) = subst (λ (o : Option ℕ). IsUnbuiltWord hart o) read p in
     let next : HartState = fetched_with word hart in
     let s' : FlatState = change_hart s h (fetched_with word) in
     let is' : slice_get s'.harts h ≡ Some next = changed_get s.harts h (fetched_with word) hart is in
     let none_behind : (unit : List Entry) → IsUnit h unit → IsLegal (at_rest s') unit → ⊥
-    = goes_on (at_rest s') h (λ e a. in_try s' h word next rest is' refl runs (same_unbuilt (inst_of word) hart next refl unbuilt) e (outside (at_rest s') h e rest a)) in
+    = goes_on (at_rest s') h (λ e a. in_try s' h word next is' refl runs (same_unbuilt (inst_of word) hart next refl unbuilt) e (may_hart s' h next e is' (outside (at_rest s') h e rest a))) in
     (refl, λ unit u l. none_behind unit u (subst (λ (m : Moment). IsLegal m unit) (after_fetch s h at word rest) l))
-at_start s h hart rest is runs none p (End at) q =
-    let w = some_and (slice_get s.harts h) _ q in
-    let same : w.0 ≡ hart = cc in
-    absurd (no_want w.0 Nothing (ap (λ (x : HartState). x.fetched) same ∙ none) w.2.1.0)
-at_start s h hart rest is runs none p Enter q =
-    let w = some_and (slice_get s.harts h) _ q in
-    let same : w.0 ≡ hart = cc in
-    let asked : ask_of (text_of s hart.generation) hart ≢ None = subst (λ (x : HartState). ask_of (text_of s x.generation) x ≢ None) same w.2.1.1 in
-    absurd (asked_at_text s hart (word_at (text_of s hart.generation) hart.arch.pc) refl none p asked)
-at_start s h hart rest is runs none p Idle q =
-    let w = some_and (slice_get s.harts h) _ q in
-    let same : w.0 ≡ hart = cc in
-    absurd (w.2 (ap (λ (x : HartState). x.life) same ∙ runs))
+at_start s h hart rest is runs none p (End at) q = absurd (let no = not_done hart none in let done : is_done hart (want_in hart) ≡ true = q.1.0 in cc)
+at_start s h hart rest is runs none p (Look va width value) q = absurd (fetch_access hart _ none q.1.0)
+at_start s h hart rest is runs none p (Take page) q = absurd (fetch_access hart _ none (taking s hart page q.1).is_access)
+at_start s h hart rest is runs none p (Put va width value) q = absurd (fetch_access hart _ none q.1.0)
+at_start s h hart rest is runs none p Enter q = absurd (asked_at_text s h hart (word_at (text_of s hart.generation) hart.arch.pc) refl none p q.1.1)
+at_start s h hart rest is runs none p Idle q = absurd (q runs)
 at_start s h hart rest is runs none p e q = absurd q
 
 pub no_unit : UnbuiltHasNoUnit
 no_unit s h pc unit rest b u l =
     let w = some_and (slice_get s.harts h) _ b in
     let word : IsUnbuiltWord w.0 (word_at (text_of s w.0.generation) w.0.arch.pc) = subst (λ (a : ℕ). IsUnbuiltWord w.0 (word_at (text_of s w.0.generation) a)) w.2.2 w.2.3 in
-    goes_on (at_rest s) h (λ e a. at_start s h w.0 rest w.1 w.2.0 w.2.1 word e (outside (at_rest s) h e rest a)) unit u l
+    goes_on (at_rest s) h (λ e a. at_start s h w.0 rest w.1 w.2.0 w.2.1 word e (may_hart s h w.0 e w.1 (outside (at_rest s) h e rest a))) unit u l

@@ -3,7 +3,7 @@ use Rattle.std.specs.Prelude.{ℕ, Bool, true, false, ◌==◌, ◌||◌, nat_lt
 use Rattle.rv_alu.specs.declared.op.AluOp.{AluOp}
 use Rattle.rv_alu.specs.declared.op.AluOp.TheVariants.{Mul, Mulh, Mulhsu, Mulhu, Div, Divu, Rem, Remu, Mulw, Divw, Divuw, Remw, Remuw}
 use Rattle.rv_inst.specs.declared.inst.Inst.{Inst}
-use Rattle.rv_inst.specs.declared.inst.Inst.TheVariants.{Load, Store, Alu, Amo, Lr, Sc}
+use Rattle.rv_inst.specs.declared.inst.Inst.TheVariants.{Alu, Amo, Lr, Sc}
 
 -- the operation is of RV64I, and not of M
 abbrev pub is_base : AluOp → Bool
@@ -22,10 +22,8 @@ is_base Remw = false
 is_base Remuw = false
 is_base op = true
 
--- the instruction is no load, no store, and none of M or A
+-- the instruction is none of M or A
 abbrev pub is_built : Inst → Bool
-is_built (Load width sign rd rs1 off) = false
-is_built (Store width rs1 rs2 off) = false
 is_built (Alu op rd rs1 rs2) = is_base op
 is_built (Amo op wide aq rl rd rs1 rs2) = false
 is_built (Lr wide aq rl rd rs1) = false

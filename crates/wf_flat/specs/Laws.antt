@@ -1,19 +1,31 @@
 -- What holds of every legal journal.
-use Rattle.std.specs.Prelude.{ℕ, List, ◌++◌, ◌∷◌, ◌≡◌, Some, None}
+use Rattle.std.specs.Prelude.{ℕ, List, [], ◌++◌, ◌∷◌, ◌≡◌, ◌≢◌, ◌⊎◌, Some, None, IfSome, ◌+◌, ◌-◌, ◌*◌, ◌/◌, ◌%◌, ◌^◌, ◌<◌, ◌&&◌, if◌then◌else◌, length, nat_le, nat_lt, slice_get, unwrap_or}
+use Rattle.std.specs.Option.{option_map}
+use Rattle.std.specs.List.{AllByRecursion}
 use Rattle.wf_flat.specs.declared.event.Actor.TheVariants.{Hart}
 use Rattle.wf_flat.specs.declared.event.Event.{Event}
-use Rattle.wf_flat.specs.declared.event.Event.TheVariants.{Fetch}
+use Rattle.wf_flat.specs.declared.event.Event.TheVariants.{Fetch, Look, Take, Put, End}
 use Rattle.wf_flat.specs.declared.event.Entry.{Entry}
-use Rattle.wf_flat.specs.State.{FlatState}
-use Rattle.wf_flat.specs.Memory.{word_at}
+use Rattle.wf_flat.specs.declared.state.Stage.TheVariants.{Going}
+use Rattle.wf_flat.specs.State.{FlatState, HartState, PageState}
+use Rattle.wf_flat.specs.Memory.{word_at, page_of, page_in, data_in, number_in}
 use Rattle.wf_flat.specs.Steps.{OfHart, text_of}
 use Rattle.wf_flat.specs.Legal.{Moment, Allows, IsLegal, at_rest}
 use Rattle.wf_flat.specs.Follows.{IsUnit}
 use Rattle.wf_flat.specs.Unbuilt.{IsUnbuilt}
 
--- a hart has at most one next event
+-- No other hart holds a page of data, and none is Going.
+abbrev pub IsOwn : ℕ → PageState → Type 0
+IsOwn h page = (page.stage ≢ Going) × ((page.holder ≡ None) ⊎ (page.holder ≡ Some h))
+
+-- The hart is between tries; or no page has moved since its fetch, no other hart holds a page, and none is
+-- Going.
+abbrev pub IsUndisturbed : FlatState → ℕ → HartState → Type 0
+IsUndisturbed s h hart = (hart.fetched ≡ None) ⊎ ((hart.moved ≡ []) × AllByRecursion (IsOwn h) s.pages)
+
+-- a hart that is undisturbed has at most one next event
 abbrev pub HartsAreDetermined : Type 0
-HartsAreDetermined = (m : Moment) (h : ℕ) (one other : Event) → Allows m (Hart h) one → Allows m (Hart h) other → one ≡ other
+HartsAreDetermined = (m : Moment) (h : ℕ) (one other : Event) → IfSome (slice_get m.flat.harts h) (IsUndisturbed m.flat h) → Allows m (Hart h) one → Allows m (Hart h) other → one ≡ other
 
 -- where nobody is inside and a hart meets what is not built, it has no unit
 abbrev pub UnbuiltHasNoUnit : Type 0
@@ -24,3 +36,51 @@ UnbuiltHasNoUnit = (s : FlatState) (h pc : ℕ) (unit : List Entry) → s.inside
 abbrev pub FetchesAreText : Type 0
 FetchesAreText = (s : FlatState) (front back : List Entry) (h pc word : ℕ) → IsLegal (at_rest s) (front ++ record { actor = Hart h; event = Fetch pc word } ∷ back)
     → OfHart s h (λ hart. word_at (text_of s hart.generation) pc ≡ Some word)
+
+-- the page is no text of the hart's generation at the start
+abbrev pub IsNoText : FlatState → ℕ → ℕ → Type 0
+IsNoText s h page = OfHart s h (λ hart. page_in (text_of s hart.generation) page ≡ None)
+
+-- the event of a hart takes the page, or reads or writes data at an address in it
+abbrev pub Touches : FlatState → ℕ → ℕ → Event → Type 0
+Touches s h page (Take taken) = page ≡ taken
+Touches s h page (Look va width value) = (page ≡ page_of va) × IsNoText s h page
+Touches s h page (Put va width value) = page ≡ page_of va
+Touches s h page event = ⊥
+
+-- the hart ends no try
+abbrev pub HasNoEnd : ℕ → List Entry → Type 0
+HasNoEnd h entries = AllByRecursion (λ entry. (pc : ℕ) → entry ≢ record { actor = Hart h; event = End pc }) entries
+
+-- Where a hart has taken a page, no other hart touches the page up to the first's next End.
+abbrev pub HoldersAreAlone : Type 0
+HoldersAreAlone = (s : FlatState) (front middle back : List Entry) (h other page : ℕ) (event : Event)
+    → IsLegal (at_rest s) (front ++ record { actor = Hart h; event = Take page } ∷ middle ++ record { actor = Hart other; event = event } ∷ back)
+    → HasNoEnd h middle → Touches s other page event → other ≡ h
+
+-- a byte of a number, by its place from the lowest on
+abbrev pub byte_of : ℕ → ℕ → ℕ
+byte_of value i = value / 2 ^ (8 * i) % 2 ^ 8
+
+-- the byte of data at an address, and 0 where no page is
+abbrev pub data_byte : FlatState → ℕ → ℕ
+data_byte s at = unwrap_or (option_map (λ page. number_in page.words (at % 4096) 1) (data_in s.pages (page_of at))) 0
+
+-- the byte at an address after an event, where it was this; and the latest that entries put there, and else this
+abbrev pub byte_after : ℕ → ℕ → Event → ℕ
+byte_after at byte (Put va width value) = if nat_le va at && nat_lt at (va + width) then byte_of value (at - va) else byte
+byte_after at byte event = byte
+
+abbrev pub latest_byte : ℕ → ℕ → List Entry → ℕ
+latest_byte at byte [] = byte
+latest_byte at byte (entry ∷ entries) = latest_byte at (byte_after at byte entry.event) entries
+
+-- each page of data has its 512 words, as in every state of the machine
+abbrev pub HasWholePages : FlatState → Type 0
+HasWholePages s = AllByRecursion (λ page. length page.words ≡ 512) s.pages
+
+-- What a hart reads of data has so many bytes, and each is the latest that a hart put there, and where none did,
+-- the byte there at the start.
+abbrev pub LooksAreLatest : Type 0
+LooksAreLatest = (s : FlatState) (front back : List Entry) (h va width value : ℕ) → HasWholePages s → IsLegal (at_rest s) (front ++ record { actor = Hart h; event = Look va width value } ∷ back)
+    → IsNoText s h (page_of va) → (value < 2 ^ (8 * width)) × ((i : ℕ) → i < width → byte_of value i ≡ latest_byte (va + i) (data_byte s (va + i)) front)

@@ -4,6 +4,8 @@ pub mod Counts
 pub mod Boot
 pub mod Memory
 pub mod Built
+pub mod Accesses
+pub mod Ordered
 pub mod Refusals
 pub mod Steps
 pub mod Calls

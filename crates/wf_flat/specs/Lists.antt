@@ -1,5 +1,5 @@
 -- Lists in the order of numbers.
-use Rattle.std.specs.Prelude.{ℕ, ◌<◌, ◌==◌, List, [], ◌∷◌, Option, None, Some, if◌then◌else◌, nat_lt, slice_get, slice_set}
+use Rattle.std.specs.Prelude.{ℕ, zero, suc, ◌<◌, ◌==◌, List, [], ◌∷◌, Option, None, Some, if◌then◌else◌, map, nat_lt, slice_get, slice_set}
 use Rattle.std.specs.List.{AllByRecursion}
 
 -- each number is below all behind it
@@ -29,3 +29,18 @@ changed_at {A} xs i f = put (slice_get xs i)
     put : Option A → List A
     put None = xs
     put (Some x) = slice_set xs i (f x)
+
+-- the element of a number
+abbrev pub found_by : {A : Type 0} → (A → ℕ) → List A → ℕ → Option A
+found_by number [] n = None
+found_by number (x ∷ xs) n = if number x == n then Some x else found_by number xs n
+
+-- the element of a number changes
+abbrev pub changed_by : {A : Type 0} → (A → ℕ) → List A → ℕ → (A → A) → List A
+changed_by number xs n f = map (λ x. if number x == n then f x else x) xs
+
+-- all elements but the one at a place change
+abbrev pub others_changed : {A : Type 0} → List A → ℕ → (A → A) → List A
+others_changed [] at f = []
+others_changed (x ∷ xs) zero f = x ∷ map f xs
+others_changed (x ∷ xs) (suc at) f = f x ∷ others_changed xs at f

@@ -1,17 +1,55 @@
--- Bytes of text.
-use Rattle.std.specs.Prelude.{ℕ, List, [], ◌∷◌, Option, Some, None, ◌*◌, ◌/◌, ◌%◌, ◌^◌, ◌==◌, if◌then◌else◌, slice_index}
+-- Bytes of text and of data, and which pages a generation has met.
+use Rattle.std.specs.Prelude.{ℕ, List, Bool, Option, ◌≡◌, ◌⊎◌, ◌+◌, ◌*◌, ◌/◌, ◌%◌, ◌^◌, is_some, slice_index, slice_set}
 use Rattle.std.specs.Option.{option_map}
 use Rattle.wf_outside.specs.Pages.{PageValue}
+use Rattle.wf_flat.specs.State.{PageState}
+use Rattle.wf_flat.specs.Lists.{found_by, inserted_by}
 
--- the page of a number
+-- the page of an address
+abbrev pub page_of : ℕ → ℕ
+page_of at = at / 4096
+
+-- the page of text, and of data, of a number
 abbrev pub page_in : List PageValue → ℕ → Option PageValue
-page_in [] number = None
-page_in (page ∷ pages) number = if page.number == number then Some page else page_in pages number
+page_in text number = found_by (λ page. page.number) text number
 
--- the four bytes at a place of a page, which is a multiple of 4
+abbrev pub data_in : List PageState → ℕ → Option PageState
+data_in pages number = found_by (λ page. page.number) pages number
+
+-- the number of so many bytes at a place of a page, lowest first; the place is a multiple of their count,
+-- which is 1, 2, 4 or 8
+abbrev pub number_in : List ℕ → ℕ → ℕ → ℕ
+number_in words at width = slice_index words (at / 8) / 2 ^ (8 * (at % 8)) % 2 ^ (8 * width)
+
+-- a word in which so many bytes from one on are those of a number
+abbrev pub word_with : ℕ → ℕ → ℕ → ℕ → ℕ
+word_with word at width value =
+    let low = 2 ^ (8 * at) in
+    let span = 2 ^ (8 * width) in
+    word / (low * span) * (low * span) + value % span * low + word % low
+
+-- a page in which so many bytes at a place are those of a number
+abbrev pub words_with : List ℕ → ℕ → ℕ → ℕ → List ℕ
+words_with words at width value = slice_set words (at / 8) (word_with (slice_index words (at / 8)) (at % 8) width value)
+
+-- the four bytes at an address of text, where its page is there
 abbrev pub word_in : List ℕ → ℕ → ℕ
-word_in words at = slice_index words (at / 8) / 2 ^ (8 * (at % 8)) % 2 ^ 32
+word_in words at = number_in words at 4
 
--- the four bytes at an address, where its page is there
 abbrev pub word_at : List PageValue → ℕ → Option ℕ
-word_at text at = option_map (λ page. word_in page.words (at % 4096)) (page_in text (at / 4096))
+word_at text at = option_map (λ page. word_in page.words (at % 4096)) (page_in text (page_of at))
+
+-- the pages that generations have met stand by rising generation and page
+abbrev pub met_key : ℕ × ℕ → ℕ
+met_key pair = pair.0 * 2 ^ 26 + pair.1
+
+abbrev pub has_met : List (ℕ × ℕ) → ℕ → ℕ → Bool
+has_met met generation page = is_some (found_by met_key met (met_key (generation, page)))
+
+abbrev pub with_met : List (ℕ × ℕ) → ℕ → ℕ → List (ℕ × ℕ)
+with_met met generation page = inserted_by met_key (generation, page) met
+
+-- a place of so many bytes, 1, 2, 4 or 8, which is a multiple of their count
+pub record IsPlace (at width : ℕ) : Type 0 where
+  pub sized : (width ≡ 1) ⊎ ((width ≡ 2) ⊎ ((width ≡ 4) ⊎ (width ≡ 8)))
+  pub even : at % width ≡ 0

@@ -1,5 +1,5 @@
 -- What a hart may do outside the kernel, and what each entry changes.
-use Rattle.std.specs.Prelude.{ℕ, List, [], Bool, true, false, Option, Some, None, ◌≡◌, ◌≢◌, ◌==◌, if◌then◌else◌, IsSomeAnd, slice_get, slice_index, option_and_then, unwrap_or}
+use Rattle.std.specs.Prelude.{ℕ, List, [], Bool, true, false, Option, Some, None, ◌≡◌, ◌≢◌, ◌==◌, ◌+◌, ◌*◌, ◌%◌, ◌^◌, ◌&&◌, ◌||◌, not, if◌then◌else◌, is_some, nat_lt, IsSomeAnd, slice_get, slice_index, option_and_then, unwrap_or}
 use Rattle.wf_outside.specs.Pages.{PageValue}
 use Rattle.rv_inst.specs.declared.inst.Inst.{Inst}
 use Rattle.rv_inst.specs.declared.inst.Inst.TheVariants.{Ecall}
@@ -12,21 +12,16 @@ use Rattle.rv_inst.specs.Meanings.{want_of, meaning_of, called}
 use Rattle.wf_flat.specs.declared.event.Actor.{Actor}
 use Rattle.wf_flat.specs.declared.event.Actor.TheVariants.{Hart, Kernel}
 use Rattle.wf_flat.specs.declared.event.Event.{Event}
-use Rattle.wf_flat.specs.declared.event.Event.TheVariants.{Fetch, End, Enter, Exit, Trap, Out, Refused, Idle}
+use Rattle.wf_flat.specs.declared.event.Event.TheVariants.{Fetch, Look, Take, Put, End, Enter, Sync, Again, Exit, Trap, Out, Refused, Idle}
 use Rattle.wf_flat.specs.declared.state.Life.TheVariants.{Running, Exited, Trapped}
-use Rattle.wf_flat.specs.State.{FlatState, GenState, HartState}
-use Rattle.wf_flat.specs.Lists.{changed_at}
-use Rattle.wf_flat.specs.Memory.{word_at}
+use Rattle.wf_flat.specs.State.{FlatState, HartState, PageState}
+use Rattle.wf_flat.specs.declared.state.Reservation.{Reservation}
+use Rattle.wf_flat.specs.Lists.{changed_at, changed_by, others_changed, with_number}
+use Rattle.wf_flat.specs.Memory.{word_at, page_of, data_in, number_in, words_with, with_met}
+pub use Rattle.wf_flat.specs.Accesses.{text_in, text_of}
+use Rattle.wf_flat.specs.Accesses.{Access, access_of, text_page, data_page, is_reached, holder_is, is_free, holds, has_reserved, stands, is_barred}
 use Rattle.wf_flat.specs.Built.{is_built}
 use Rattle.wf_flat.specs.Refusals.{refused_answer}
-
--- the text of a generation
-abbrev pub text_in : Option GenState → List PageValue
-text_in None = []
-text_in (Some gen) = gen.text
-
-abbrev pub text_of : FlatState → ℕ → List PageValue
-text_of s generation = text_in (slice_get s.gens generation)
 
 -- the hart is there, and P holds of it
 abbrev pub OfHart : FlatState → ℕ → (HartState → Type 0) → Type 0
@@ -44,35 +39,53 @@ built_want inst arch = if is_built inst then Some (want_of inst arch) else None
 abbrev pub want_in : HartState → Option Want
 want_in hart = option_and_then (λ inst. built_want inst hart.arch) (inst_in hart)
 
--- What a hart asks the kernel for: a call, whose number and arguments are in its registers; or to be stopped
--- with a trap, which has this cause and value.
+-- the access of its try
+abbrev pub access_in : HartState → Option Access
+access_in hart = access_of (want_in hart)
+
+-- What a hart asks the kernel for: a call, whose number and arguments are in its registers; to be stopped
+-- with a trap, which has this cause and value; or what its access is to do that is barred.
 pub data Ask : Type 0 where
   Called : Ask
   Stopped : ℕ → ℕ → Ask
+  Faulted : Access → Ask
 
-abbrev pub ask_of_want : Option Want → Option Ask
-ask_of_want (Some Call) = Some Called
-ask_of_want (Some (want.Trap cause value)) = Some (Stopped cause value)
-ask_of_want want = None
+-- a store-conditional without a reservation for its address and width misses wherever it points
+abbrev pub is_lost : Option Want → Option Reservation → Bool
+is_lost (Some (want.PutIf va width value)) reservation = not (has_reserved reservation va width)
+is_lost want reservation = false
+
+-- an access without an answer, of a hart that does not hold its page, that is barred
+abbrev pub asks_access : FlatState → ℕ → HartState → Access → Bool
+asks_access s h hart access = not (is_some hart.looked) && not (holds s h access) && not (is_lost (want_in hart) hart.reservation) && is_barred s hart access
+
+abbrev pub ask_of_access : FlatState → ℕ → HartState → Option Access → Option Ask
+ask_of_access s h hart None = None
+ask_of_access s h hart (Some access) = if asks_access s h hart access then Some (Faulted access) else None
+
+abbrev pub ask_of_want : FlatState → ℕ → HartState → Option Want → Option Ask
+ask_of_want s h hart (Some Call) = Some Called
+ask_of_want s h hart (Some (want.Trap cause value)) = Some (Stopped cause value)
+ask_of_want s h hart want = ask_of_access s h hart (access_of want)
 
 -- Of a word that is no instruction: illegal instruction, cause 2, with the word (RISC-V privileged ISA,
 -- "Machine Cause Register").
-abbrev pub ask_of_word : ArchState → ℕ → Option Inst → Option Ask
-ask_of_word arch word None = Some (Stopped 2 word)
-ask_of_word arch word (Some inst) = ask_of_want (built_want inst arch)
+abbrev pub ask_of_word : FlatState → ℕ → HartState → ℕ → Option Inst → Option Ask
+ask_of_word s h hart word None = Some (Stopped 2 word)
+ask_of_word s h hart word (Some inst) = ask_of_want s h hart (built_want inst hart.arch)
 
 -- Of a pc in a page that is no text: instruction page fault, cause 12, with the pc.
 abbrev pub ask_of_fetch : ℕ → Option ℕ → Option Ask
 ask_of_fetch pc None = Some (Stopped 12 pc)
 ask_of_fetch pc (Some word) = None
 
-abbrev pub ask_by : List PageValue → ArchState → Option ℕ → Option Ask
-ask_by text arch None = ask_of_fetch arch.pc (word_at text arch.pc)
-ask_by text arch (Some word) = ask_of_word arch word (inst_of word)
+abbrev pub ask_by : FlatState → ℕ → HartState → Option ℕ → Option Ask
+ask_by s h hart None = ask_of_fetch hart.arch.pc (word_at (text_of s hart.generation) hart.arch.pc)
+ask_by s h hart (Some word) = ask_of_word s h hart word (inst_of word)
 
--- what a hart asks for, where its text is this
-abbrev pub ask_of : List PageValue → HartState → Option Ask
-ask_of text hart = ask_by text hart.arch hart.fetched
+-- what hart h, which is this, asks for
+abbrev pub ask_of : FlatState → ℕ → HartState → Option Ask
+ask_of s h hart = ask_by s h hart hart.fetched
 
 -- The answer of its call: that of the own generation, call 4, is its number, and that of another is what
 -- an entry of the call gave. The number is in a7, which is x17 (RISC-V ELF psABI, "Integer Register Convention").
@@ -92,19 +105,82 @@ arch_after hart = arch_by (inst_in hart) hart
 abbrev pub MayFetch : List PageValue → HartState → ℕ → ℕ → Type 0
 MayFetch text hart pc word = (hart.fetched ≡ None) × (pc ≡ hart.arch.pc) × (word_at text pc ≡ Some word)
 
--- its instruction wants nothing, and this is the pc after it
+-- Its access reads these bytes: of its own text; or of a page of data, which is in reach, free and below the
+-- last count of writes, or which it holds.
+abbrev pub may_read : FlatState → ℕ → HartState → Access → PageState → Bool
+may_read s h hart access page = is_free page && is_reached s hart access page && nat_lt page.writes s.limits.last_writes || holder_is page.holder h
+
+abbrev pub ReadsData : FlatState → ℕ → HartState → Access → Option PageState → ℕ → Type 0
+ReadsData s h hart access None value = ⊥
+ReadsData s h hart access (Some page) value = (may_read s h hart access page ≡ true) × (value ≡ number_in page.words (access.va % 4096) access.width)
+
+abbrev pub Reads : FlatState → ℕ → HartState → Access → Option PageValue → ℕ → Type 0
+Reads s h hart access None value = ReadsData s h hart access (data_page s access) value
+Reads s h hart access (Some page) value = value ≡ number_in page.words (access.va % 4096) access.width
+
+abbrev pub MayLook : FlatState → ℕ → HartState → ℕ → ℕ → ℕ → Type 0
+MayLook s h hart va width value =
+    let access : Access = record { va = va; width = width; write = false } in
+    (access_in hart ≡ Some access) × (hart.looked ≡ None) × Reads s h hart access (text_page s hart access) value
+
+-- Its access takes the page of data, which is free and in reach with the right: it writes, as a store-conditional
+-- where its reservation stands; or it reads at the last count of writes.
+abbrev pub takes_for : Option Want → FlatState → HartState → Access → PageState → Bool
+takes_for (Some (want.PutIf va width value)) s hart access page = stands hart.reservation access page
+takes_for want s hart access page = access.write || not (nat_lt page.writes s.limits.last_writes)
+
+abbrev pub TakesData : FlatState → HartState → Access → Option PageState → Type 0
+TakesData s hart access None = ⊥
+TakesData s hart access (Some page) = is_free page && is_reached s hart access page && takes_for (want_in hart) s hart access page ≡ true
+
+abbrev pub MayTake : FlatState → HartState → Option Access → ℕ → Type 0
+MayTake s hart None page = ⊥
+MayTake s hart (Some access) page = (page ≡ page_of access.va) × (hart.looked ≡ None) × (text_page s hart access ≡ None) × TakesData s hart access (data_page s access)
+
+-- what a store, or a store-conditional, puts
+abbrev pub put_of : Option Want → Option ℕ
+put_of (Some (want.Put va width value)) = Some value
+put_of (Some (want.PutIf va width value)) = Some value
+put_of want = None
+
+-- it holds the page, its write is not made, and these are the low bytes of what it puts
+abbrev pub MayPut : FlatState → ℕ → HartState → ℕ → ℕ → ℕ → Type 0
+MayPut s h hart va width value =
+    let access : Access = record { va = va; width = width; write = true } in
+    (access_in hart ≡ Some access) × (holds s h access ≡ true) × (hart.looked ≡ None) × (hart.put ≡ false) × IsSomeAnd (put_of (want_in hart)) (λ whole. value ≡ whole % 2 ^ (8 * width))
+
+-- a write is made, or missed
+abbrev pub is_conditional : Option Want → Bool
+is_conditional (Some (want.PutIf va width value)) = true
+is_conditional want = false
+
+abbrev pub has_written : HartState → Access → Bool
+has_written hart access = not access.write || hart.put || is_conditional (want_in hart)
+
+-- its instruction wants nothing, or an access that has its answer and has written, and this is the pc after it
+abbrev pub has_ended : HartState → Option Access → Bool
+has_ended hart None = false
+has_ended hart (Some access) = is_some hart.looked && has_written hart access
+
+abbrev pub is_done : HartState → Option Want → Bool
+is_done hart (Some Nothing) = true
+is_done hart want = has_ended hart (access_of want)
+
 abbrev pub MayEnd : HartState → ℕ → Type 0
-MayEnd hart pc = (want_in hart ≡ Some Nothing) × (pc ≡ (arch_after hart).pc)
+MayEnd hart pc = (is_done hart (want_in hart) ≡ true) × (pc ≡ (arch_after hart).pc)
 
 -- nobody is inside the kernel, and it asks
-abbrev pub MayEnter : List PageValue → Option Actor → HartState → Type 0
-MayEnter text inside hart = (inside ≡ None) × (ask_of text hart ≢ None)
+abbrev pub MayEnter : FlatState → ℕ → HartState → Type 0
+MayEnter s h hart = (s.inside ≡ None) × (ask_of s h hart ≢ None)
 
 -- Where an actor outside the kernel may make an event. A hart runs, save where it idles.
 abbrev pub MayAct : FlatState → Actor → Event → Type 0
 MayAct s (Hart h) (Fetch pc word) = OfHart s h (λ hart. (hart.life ≡ Running) × MayFetch (text_of s hart.generation) hart pc word)
 MayAct s (Hart h) (End pc) = OfHart s h (λ hart. (hart.life ≡ Running) × MayEnd hart pc)
-MayAct s (Hart h) Enter = OfHart s h (λ hart. (hart.life ≡ Running) × MayEnter (text_of s hart.generation) s.inside hart)
+MayAct s (Hart h) (Look va width value) = OfHart s h (λ hart. (hart.life ≡ Running) × MayLook s h hart va width value)
+MayAct s (Hart h) (Take page) = OfHart s h (λ hart. (hart.life ≡ Running) × MayTake s hart (access_in hart) page)
+MayAct s (Hart h) (Put va width value) = OfHart s h (λ hart. (hart.life ≡ Running) × MayPut s h hart va width value)
+MayAct s (Hart h) Enter = OfHart s h (λ hart. (hart.life ≡ Running) × MayEnter s h hart)
 MayAct s (Hart h) Idle = OfHart s h (λ hart. hart.life ≢ Running)
 MayAct s actor event = ⊥
 
@@ -130,6 +206,17 @@ change_hart s h f = record s { harts = changed_at s.harts h f }
 abbrev pub leave_hart : FlatState → ℕ → (HartState → HartState) → FlatState
 leave_hart s h f = change_hart (record s { inside = without s.inside (Hart h) }) h f
 
+-- a page of data changes
+abbrev pub change_page : FlatState → ℕ → (PageState → PageState) → FlatState
+change_page s number f = record s { pages = changed_by (λ page. page.number) s.pages number f }
+
+-- a page that moved is noted by every other hart that is in a try
+abbrev pub noted : ℕ → HartState → HartState
+noted page hart = if is_some hart.fetched then record hart { moved = with_number page hart.moved } else hart
+
+abbrev pub note_page : FlatState → ℕ → ℕ → FlatState
+note_page s h page = record s { harts = others_changed s.harts h (noted page) }
+
 -- a try begins
 abbrev pub fetched_with : ℕ → HartState → HartState
 fetched_with word hart = record hart { fetched = Some word; looked = None; put = false; moved = [] }
@@ -142,20 +229,73 @@ ended hart = record hart { fetched = None; arch = arch_after hart }
 abbrev pub exited_with : ℕ → HartState → HartState
 exited_with code hart = record hart { fetched = None; life = Exited code }
 
+-- a try ends, and nothing of it is left
+abbrev pub tried : HartState → HartState
+tried hart = record hart { fetched = None }
+
 abbrev pub trapped_with : ℕ → ℕ → HartState → HartState
 trapped_with cause value hart = record hart { fetched = None; life = Trapped cause value }
 
--- a call has its answer
+-- a call or an access has its answer
 abbrev pub answered : ℕ → HartState → HartState
 answered answer hart = record hart { looked = Some answer }
+
+-- a load-reserved leaves a reservation on a page of data below the last count of writes, and else none
+abbrev pub reservation_of : FlatState → ℕ → ℕ → Option PageState → Option Reservation
+reservation_of s va width None = None
+reservation_of s va width (Some page) = if nat_lt page.writes s.limits.last_writes then Some (record { va = va; width = width; birth = page.birth; writes = page.writes }) else None
+
+abbrev pub reserves : Option Want → Bool
+reserves (Some (want.Reserve va width)) = true
+reserves want = false
+
+abbrev pub looked_with : FlatState → ℕ → ℕ → ℕ → HartState → HartState
+looked_with s va width value hart =
+    record (answered value hart) { reservation = if reserves (want_in hart) then reservation_of s va width (data_in s.pages (page_of va)) else hart.reservation }
+
+-- a write is made; a store-conditional leaves no reservation
+abbrev pub written_by : HartState → HartState
+written_by hart = record (answered 0 hart) { put = true; reservation = if is_conditional (want_in hart) then None else hart.reservation }
+
+-- a page is taken, is written, and is given back: its writes rise by one, as far as they go, where its hart wrote
+abbrev pub taken_by : ℕ → PageState → PageState
+taken_by h page = record page { holder = Some h }
+
+abbrev pub put_with : ℕ → ℕ → ℕ → PageState → PageState
+put_with at width value page = record page { words = words_with page.words at width value }
+
+abbrev pub given_back : ℕ → Bool → PageState → PageState
+given_back last put page = record page { holder = None; writes = if put && nat_lt page.writes last then page.writes + 1 else page.writes }
+
+-- the page of its access that a hart holds is given back
+abbrev pub give_back_of : FlatState → ℕ → HartState → Option Access → FlatState
+give_back_of s h hart None = s
+give_back_of s h hart (Some access) =
+    if holds s h access then note_page (change_page s (page_of access.va) (given_back s.limits.last_writes hart.put)) h (page_of access.va) else s
+
+abbrev pub give_back_by : FlatState → ℕ → Option HartState → FlatState
+give_back_by s h None = s
+give_back_by s h (Some hart) = give_back_of s h hart (access_in hart)
+
+abbrev pub give_back : FlatState → ℕ → FlatState
+give_back s h = give_back_by s h (slice_get s.harts h)
+
+-- a generation has met a page, which is noted by the other harts that are in it and in a try
+abbrev pub noted_in : ℕ → ℕ → HartState → HartState
+noted_in generation page hart = if hart.generation == generation then noted page hart else hart
 
 -- What an event of an actor changes; all else stays. A byte that is put is answered by 0.
 abbrev pub flat_after : FlatState → Actor → Event → FlatState
 flat_after s (Hart h) (Fetch pc word) = change_hart s h (fetched_with word)
-flat_after s (Hart h) (End pc) = leave_hart s h ended
+flat_after s (Hart h) (Look va width value) = change_hart s h (looked_with s va width value)
+flat_after s (Hart h) (Take page) = note_page (change_page s page (taken_by h)) h page
+flat_after s (Hart h) (Put va width value) = change_hart (change_page s (page_of va) (put_with (va % 4096) width value)) h written_by
+flat_after s (Hart h) (End pc) = leave_hart (give_back s h) h ended
 flat_after s actor Enter = record s { inside = Some actor }
+flat_after s (Hart h) (Sync generation page) = record s { inside = without s.inside (Hart h); met = with_met s.met generation page; harts = others_changed s.harts h (noted_in generation page) }
 flat_after s (Hart h) (Exit code) = leave_hart s h (exited_with code)
 flat_after s (Hart h) (Trap cause value) = leave_hart s h (trapped_with cause value)
+flat_after s (Hart h) (Again page) = leave_hart s h tried
 flat_after s (Hart h) (Out byte) = change_hart s h (answered 0)
 flat_after s (Hart h) (Refused reason) = change_hart s h (answered (refused_answer reason))
 flat_after s actor event = s

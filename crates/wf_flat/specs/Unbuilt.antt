@@ -9,7 +9,7 @@ use Rattle.wf_flat.specs.Memory.{word_at}
 use Rattle.wf_flat.specs.Built.{is_built, is_built_call}
 use Rattle.wf_flat.specs.Steps.{OfHart, text_of}
 
--- the instruction is a load, a store, or one of M or A; or it is a call that is not built
+-- the instruction is one of M or A; or it is a call that is not built
 abbrev pub IsUnbuiltInst : HartState → Option Inst → Type 0
 IsUnbuiltInst hart None = ⊥
 IsUnbuiltInst hart (Some Ecall) = is_built_call (slice_index hart.arch.x 17) ≡ false

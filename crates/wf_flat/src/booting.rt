@@ -4,6 +4,7 @@ ghost use Rattle.std.specs.List.{IsDistinct};
 ghost use Rattle.wf_outside.specs.Pages.{IsPage};
 ghost use Rattle.wf_outside.specs.Images.{text_numbers, data_numbers};
 ghost use Rattle.wf_flat.specs.Lists.{IsRising, sorted_by};
+ghost use Rattle.wf_flat.specs.Ordered.{IsOrdered};
 ghost use Rattle.wf_flat.specs.Counts.{used_of, places_with};
 ghost use Rattle.wf_flat.specs.Boot.{fresh_page, stack_page, stack_of, stacks_of, numbered_from, boot_pages, boot_hart, boot_harts, boot_gen, boot_of};
 
@@ -263,6 +264,7 @@ pub fn boot(alloc: Global, image: &Image, harts: u8, limits: Limits) -> Result<F
     requires some { 1 ≤ harts }
     requires few { harts ≤ 64 }
     ensures ok { IfOk result (λ flat. flat ≡ boot_of image.now harts limits) }
+    ensures ordered { IfOk result (λ flat. IsOrdered flat) }
     // The frames suffice, or both numbers say that they don't.
     ensures fits { OnOk result (used_of (boot_of image.now harts limits) ≤ limits.frames) }
     ensures no_frames { (need have : ℕ) → result ≡ Err (BootFault.NoFrames need have)

@@ -1,9 +1,13 @@
 //! What an entry changes of its hart.
-ghost use Rattle.std.specs.Prelude.{◌≡◌, ◌<◌, length, slice_get};
+ghost use Rattle.std.specs.Prelude.{◌≡◌, ◌<◌, ◌%◌, ℕ, false, length, map, slice_get};
 ghost use Rattle.std.specs.Option.{option_map};
 ghost use Rattle.wf_flat.specs.declared.event.Event.TheVariants as events;
 ghost use Rattle.wf_flat.specs.Refusals.{refused_answer};
-ghost use Rattle.wf_flat.specs.Steps.{OfHart, flat_after, fetched_with, ended, exited_with, trapped_with, answered, without, arch_after};
+ghost use Rattle.wf_flat.specs.Steps.{OfHart, flat_after, fetched_with, ended, exited_with, trapped_with, answered, without, arch_after, taken_by, put_with, written_by, give_back, change_hart, leave_hart, reserves, is_conditional, want_in, access_in};
+ghost use Rattle.wf_flat.specs.Accesses.{held_by};
+ghost use Rattle.wf_flat.specs.Lists.{IsRising};
+ghost use Rattle.wf_flat.specs.Memory.{IsPlace, page_of, data_in, met_key, with_met};
+ghost use Rattle.wf_flat.specs.Ordered.{IsOrdered, page_numbers};
 
 use crate::{Actor, Flat, FlatHart, Life};
 use rv_inst::Arch;
@@ -45,7 +49,16 @@ impl FlatHart {
         self.life = Life::Trapped { cause, value };
     }
 
-    // Its call has this answer.
+    // Its write is made.
+    fn write(&mut self)
+        requires { is_conditional (want_in self.old) ≡ false }
+        ensures { self.new ≡ written_by self.old }
+    {
+        self.looked = Some(0);
+        self.put = true;
+    }
+
+    // Its call, or its access, has this answer.
     fn answer(&mut self, answer: u64)
         ensures { self.new ≡ answered answer self.old }
     {
@@ -94,16 +107,121 @@ impl Flat {
         }
     }
 
-    /// The change of an End by this hart, whose pc and registers after its instruction or its call are
-    /// `next`.
-    pub fn end(&mut self, h: u8, next: Arch)
+    /// The change of a Look by this hart, which is no load-reserved.
+    pub fn look(&mut self, h: u8, va: u64, width: u8, value: u64)
+        requires { OfHart self.old h (λ hart. reserves (want_in hart) ≡ false) }
+        ensures state { self.new ≡ flat_after self.old (Actor.Hart h) (events.Look va width value) }
+        ensures hart { slice_get self.new.harts h ≡ option_map (answered value) (slice_get self.old.harts h) }
+    {
+        let hart = &mut self.harts[h as usize];
+        hart.answer(value);
+    }
+
+    /// The change of a Take by this hart, on a machine of one. It takes time in the logarithm of the pages.
+    pub fn take(&mut self, h: u8, page: u32)
+        requires alone { length self.old.harts ≡ 1 }
+        requires there { h < length self.old.harts }
+        requires ordered { IsOrdered self.old }
+        ensures state { self.new ≡ flat_after self.old (Actor.Hart h) (events.Take page) }
+        ensures harts { self.new.harts ≡ self.old.harts }
+        ensures page { data_in self.new.pages page ≡ option_map (taken_by h) (data_in self.old.pages page) }
+        ensures ordered { IsOrdered self.new }
+        ensures numbers { page_numbers self.new.pages ≡ page_numbers self.old.pages }
+    {
+        self.take_page(page as u64, h);
+    }
+
+    // The write of a hart is made.
+    fn write(&mut self, h: u8)
+        requires { OfHart self.old h (λ hart. is_conditional (want_in hart) ≡ false) }
+        ensures { self.new ≡ change_hart self.old h written_by }
+    {
+        let hart = &mut self.harts[h as usize];
+        hart.write();
+    }
+
+    /// The change of a Put by this hart, which is no store-conditional. It takes time in the logarithm of
+    /// the pages.
+    pub fn put(&mut self, h: u8, va: u64, width: u8, value: u64)
+        requires plain { OfHart self.old h (λ hart. is_conditional (want_in hart) ≡ false) }
+        requires place { IsPlace va width }
+        requires ordered { IsOrdered self.old }
+        ensures state { self.new ≡ flat_after self.old (Actor.Hart h) (events.Put va width value) }
+        ensures hart { slice_get self.new.harts h ≡ option_map written_by (slice_get self.old.harts h) }
+        ensures page { data_in self.new.pages (page_of va) ≡ option_map (put_with (va % 4096) width value) (data_in self.old.pages (page_of va)) }
+        ensures ordered { IsOrdered self.new }
+        ensures numbers { page_numbers self.new.pages ≡ page_numbers self.old.pages }
+    {
+        self.put_page(va, width, value);
+        self.write(h);
+    }
+
+    // Whether a hart has made its write.
+    fn has_put(&self, h: u8) -> bool
+        requires { h < length self.now.harts }
+        ensures { OfHart self.now h (λ hart. result ≡ hart.put) }
+    {
+        let hart = &self.harts[h as usize];
+        hart.put
+    }
+
+    // The hart, which is alone, gives back the page of its access that it holds.
+    fn give_back(&mut self, h: u8, held: Option<u32>)
+        requires alone { length self.old.harts ≡ 1 }
+        requires ordered { IsOrdered self.old }
+        requires held { OfHart self.old h (λ hart. held ≡ held_by self.old h (access_in hart)) }
+        ensures state { self.new ≡ give_back self.old h }
+        ensures harts { self.new.harts ≡ self.old.harts }
+        ensures inside { self.new.inside ≡ self.old.inside }
+        ensures ordered { IsOrdered self.new }
+        ensures numbers { page_numbers self.new.pages ≡ page_numbers self.old.pages }
+    {
+        if let Some(page) = held {
+            let put = self.has_put(h);
+            self.give_page(page as u64, put);
+        }
+    }
+
+    // A hart leaves the kernel, if it is inside, and its try ends.
+    fn finish(&mut self, h: u8, next: Arch)
         requires { OfHart self.old h (λ hart. next ≡ arch_after hart) }
-        ensures state { self.new ≡ flat_after self.old (Actor.Hart h) (events.End next.pc) }
-        ensures hart { slice_get self.new.harts h ≡ option_map ended (slice_get self.old.harts h) }
+        ensures { self.new ≡ leave_hart self.old h ended }
     {
         self.leave(h);
         let hart = &mut self.harts[h as usize];
         hart.end(next);
+    }
+
+    /// The change of an End by this hart, on a machine of one. `next` are the pc and registers after its
+    /// instruction or its call, and `held` is the page of its access, if it holds it.
+    pub fn end(&mut self, h: u8, held: Option<u32>, next: Arch)
+        requires alone { length self.old.harts ≡ 1 }
+        requires ordered { IsOrdered self.old }
+        requires held { OfHart self.old h (λ hart. held ≡ held_by self.old h (access_in hart)) }
+        requires next { OfHart self.old h (λ hart. next ≡ arch_after hart) }
+        ensures state { self.new ≡ flat_after self.old (Actor.Hart h) (events.End next.pc) }
+        ensures hart { slice_get self.new.harts h ≡ option_map ended (slice_get self.old.harts h) }
+        ensures ordered { IsOrdered self.new }
+        ensures numbers { page_numbers self.new.pages ≡ page_numbers self.old.pages }
+    {
+        self.give_back(h, held);
+        self.finish(h, next);
+    }
+
+    /// The change of a Sync by this hart, on a machine of one. `met` is what the generations have met with
+    /// the page that this one meets now, as `met_with` makes it.
+    pub fn sync(&mut self, h: u8, met: Vec<(u32, u32)>)
+        requires alone { length self.old.harts ≡ 1 }
+        requires there { h < length self.old.harts }
+        requires ordered { IsOrdered self.old }
+        requires rising { IsRising (map met_key met.items) }
+        ensures state { (generation page : ℕ) → met.items ≡ with_met self.old.met generation page → self.new ≡ flat_after self.old (Actor.Hart h) (events.Sync generation page) }
+        ensures harts { self.new.harts ≡ self.old.harts }
+        ensures ordered { IsOrdered self.new }
+        ensures pages { self.new.pages ≡ self.old.pages }
+    {
+        self.leave(h);
+        self.set_met(met);
     }
 
     /// The change of an Enter.

@@ -4,6 +4,7 @@
 
 mod booting;
 mod counting;
+mod data;
 mod event;
 mod hart;
 mod laws;
@@ -13,6 +14,10 @@ mod tests;
 mod text;
 
 pub use booting::{BootFault, boot};
+pub use data::number_at;
 pub use event::{Actor, Entry, Event, WaitFor};
-pub use laws::{fetches_are_text, harts_are_determined, unbuilt_has_no_unit};
+pub use laws::{
+    fetches_are_text, harts_are_determined, holders_are_alone, looks_are_latest,
+    unbuilt_has_no_unit,
+};
 pub use state::{Flat, FlatHart, FlatPage, Gen, Life, Reservation, Stage};

@@ -198,7 +198,7 @@ fn a_hart_adds_and_exits(rt: HostRuntime) -> Result<(), Fail> {
     assert_eq!(rt; (flat.harts[0].looked, flat.harts[0].put), (None, false));
     assert_eq!(rt; flat.harts[0].moved.len(), 0);
     let next = after_addi(&flat.harts[0]);
-    flat.end(0, next);
+    flat.end(0, None, next);
     assert_eq!(rt; flat.harts.len(), 1);
     assert_eq!(rt; flat.harts[0].fetched, None);
     assert_eq!(rt; flat.harts[0].arch.pc, 0x1_0004);

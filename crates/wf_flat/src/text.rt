@@ -1,11 +1,13 @@
 //! Reading text.
-ghost use Rattle.std.specs.Prelude.{◌≡◌, option_copied};
+ghost use Rattle.std.specs.Prelude.{◌≡◌, ◌⊎◌, ◌%◌, option_copied};
+ghost use Rattle.std.specs.Option.{option_map};
 ghost use Rattle.wf_outside.specs.Images.{text_numbers};
 ghost use Rattle.wf_flat.specs.Lists.{IsRising};
-ghost use Rattle.wf_flat.specs.Memory.{word_at, page_in};
+ghost use Rattle.wf_flat.specs.Memory.{word_at, page_in, page_of, number_in};
 ghost use Rattle.wf_flat.specs.Steps.{text_of};
 
 use crate::Flat;
+use crate::data::number_at;
 use wf_outside::Page;
 
 // The page of a number, in pages by rising number.
@@ -30,6 +32,16 @@ fn find_word(text: &[Page], at: u64) -> Option<u32>
     Some((word >> (8 * (place % 8)) & 0xFFFF_FFFF) as u32)
 }
 
+// So many bytes at an address.
+fn find_number(text: &[Page], at: u64, width: u8) -> Option<u64>
+    requires rising { IsRising (text_numbers text.now) }
+    requires width { (width ≡ 1) ⊎ ((width ≡ 2) ⊎ ((width ≡ 4) ⊎ (width ≡ 8))) }
+    ensures { result ≡ option_map (λ page. number_in page.words (at % 4096) width) (page_in text.now (page_of at)) }
+{
+    let page = find_page(text, at / 4096)?;
+    Some(number_at(&page.words, at % 4096, width))
+}
+
 impl Flat {
     /// The four bytes at an address, a multiple of 4, of a generation's text; `None` where its page is
     /// no text of it. It takes time in the logarithm of the pages.
@@ -38,5 +50,16 @@ impl Flat {
     {
         let version = self.gens.get(generation as usize)?;
         find_word(&version.text, at)
+    }
+
+    /// The number of `width` bytes, 1, 2, 4 or 8, at an address, a multiple of them, of a generation's
+    /// text, lowest first; `None` where its page is no text of it. It takes time in the logarithm of the
+    /// pages.
+    pub fn text_number(&self, generation: u32, va: u64, width: u8) -> Option<u64>
+        requires { (width ≡ 1) ⊎ ((width ≡ 2) ⊎ ((width ≡ 4) ⊎ (width ≡ 8))) }
+        ensures { result ≡ option_map (λ page. number_in page.words (va % 4096) width) (page_in (text_of self.now generation) (page_of va)) }
+    {
+        let version = self.gens.get(generation as usize)?;
+        find_number(&version.text, va, width)
     }
 }

@@ -18,6 +18,7 @@ use Rattle.wf_top.specs.Answers.{IsTooLong, Reads, HoldsImage, HoldsBoth, CallsF
 use Rattle.wf_top.specs.Laws.{AnswersAreOne, ReportsAreOne, RunsMeetNothing}
 use Rattle.wf_top.proofs.StepLemmas.{some_and}
 use Rattle.wf_top.proofs.ScriptLemmas.{no_fault, same_script, same_fault}
+use Rattle.wf_top.proofs.StartLemmas.{start_alone}
 use Rattle.wf_top.proofs.DeterminedLemmas.{follows_same, meets_nothing, meets_one}
 
 -- what is held is one thing
@@ -112,7 +113,7 @@ by_step law none image script pc (Unbuilt Image) p q = absurd (no_image image p.
 by_step law none image script pc (Unbuilt (Script line)) p q = absurd (not_both script p.script line p.is_script q.1)
 by_step law none image script pc (Unbuilt (Step at)) p q =
     let b = both_same image script _ _ p q in
-    let e : pc ≡ at = meets_one law none (start_of b.0) b.1 pc at b.2 b.3 in cc
+    let e : pc ≡ at = meets_one law none (start_of b.0) (start_alone b.0) b.1 pc at b.2 b.3 in cc
 by_step law none image script pc Done p q = let b = both_same image script _ _ p q in absurd (b.3 pc b.2)
 by_step law none image script pc other p q = absurd q
 
@@ -134,8 +135,8 @@ answers_are_one law none image script one other p q = absurd p
 
 pub reports_are_one : HartsAreDetermined → ReportsAreOne
 reports_are_one law image script one other p q =
-    let same : p.journal ≡ q.journal = follows_same law (start_of image) script p.journal q.journal p.follows q.follows p.legal q.legal in
+    let same : p.journal ≡ q.journal = follows_same law (start_of image) (start_alone image) script p.journal q.journal p.follows q.follows p.legal q.legal in
     p.text_is ∙ ap (λ (j : List Entry). report_bytes j (end_of (start_of image) j).flat) same ∙ sym q.text_is
 
 pub runs_meet_nothing : HartsAreDetermined → UnbuiltHasNoUnit → RunsMeetNothing
-runs_meet_nothing law none image script text pc p d = meets_nothing law none (start_of image) script pc p.journal p.follows p.legal d
+runs_meet_nothing law none image script text pc p d = meets_nothing law none (start_of image) (start_alone image) script pc p.journal p.follows p.legal d

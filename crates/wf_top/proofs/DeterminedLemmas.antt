@@ -16,6 +16,7 @@ use Rattle.wf_top.specs.declared.script.Command.TheVariants.{Step}
 use Rattle.wf_top.specs.Follows.{IsBlock, Follows, IsCut, MeetsUnbuiltAt, MeetsUnbuilt}
 use Rattle.wf_top.proofs.StepLemmas.{some_and}
 use Rattle.wf_top.proofs.RunLemmas.{end_of-append, legal_front, legal_back}
+use Rattle.wf_top.proofs.AloneLemmas.{IsAlone, determined, alone_after, alone_at_end}
 
 same_entry : (e f : Entry) → e.actor ≡ f.actor → e.event ≡ f.event → e ≡ f
 same_entry e f a b =
@@ -27,17 +28,17 @@ unit_rests true h es fs same u v = u ∙ sym v
 unit_rests false h es fs same u v = same u v
 
 -- one unit
-unit_same : HartsAreDetermined → (m : Moment) (h : ℕ) (one other : List Entry) → IsUnit h one → IsUnit h other → IsLegal m one → IsLegal m other → one ≡ other
-unit_same law m h [] other u v p q = absurd u
-unit_same law m h (e ∷ es) [] u v p q = absurd v
-unit_same law m h (e ∷ es) (f ∷ fs) u v p q =
+unit_same : HartsAreDetermined → (m : Moment) → IsAlone m.flat → (h : ℕ) (one other : List Entry) → IsUnit h one → IsUnit h other → IsLegal m one → IsLegal m other → one ≡ other
+unit_same law m al h [] other u v p q = absurd u
+unit_same law m al h (e ∷ es) [] u v p q = absurd v
+unit_same law m al h (e ∷ es) (f ∷ fs) u v p q =
     let a : Allows m (Hart h) e.event = subst (λ (x : Actor). Allows m x e.event) u.0 p.0 in
     let b : Allows m (Hart h) f.event = subst (λ (x : Actor). Allows m x f.event) v.0 q.0 in
-    let events : e.event ≡ f.event = law m h e.event f.event a b in
+    let events : e.event ≡ f.event = determined law m h e.event f.event al a b in
     let entries : e ≡ f = same_entry e f (u.0 ∙ sym v.0) events in
     let w : MatchBool (ends_unit e.event) (fs ≡ []) (IsUnit h fs) = subst (λ (x : Event). MatchBool (ends_unit x) (fs ≡ []) (IsUnit h fs)) (sym events) v.1 in
     let r : IsLegal (after m e.actor e.event) fs = subst (λ (x : Entry). IsLegal (after m x.actor x.event) fs) (sym entries) q.1 in
-    let rest : es ≡ fs = unit_rests (ends_unit e.event) h es fs (λ x y. unit_same law (after m e.actor e.event) h es fs x y p.1 r) u.1 w in
+    let rest : es ≡ fs = unit_rests (ends_unit e.event) h es fs (λ x y. unit_same law (after m e.actor e.event) (alone_after m e al p.0) h es fs x y p.1 r) u.1 w in
     ap (λ (x : Entry). x ∷ es) entries ∙ ap (λ (xs : List Entry). f ∷ xs) rest
 
 -- two lists in two parts each, of which the fronts are one
@@ -45,29 +46,29 @@ parts_same : (one other a b c d : List Entry) → one ≡ a ++ b → other ≡ c
 parts_same one other a b c d e f g h = e ∙ ap (λ (x : List Entry). x ++ b) g ∙ ap (λ (x : List Entry). c ++ x) h ∙ sym f
 
 -- so many units
-units_same : HartsAreDetermined → (m : Moment) (h n : ℕ) (one other : List Entry) → AreUnits h n one → AreUnits h n other → IsLegal m one → IsLegal m other → one ≡ other
-units_same law m h zero one other u v p q = u ∙ sym v
-units_same law m h (suc n) one other u v p q =
+units_same : HartsAreDetermined → (m : Moment) → IsAlone m.flat → (h n : ℕ) (one other : List Entry) → AreUnits h n one → AreUnits h n other → IsLegal m one → IsLegal m other → one ≡ other
+units_same law m al h zero one other u v p q = u ∙ sym v
+units_same law m al h (suc n) one other u v p q =
     let p' : IsLegal m (u.front ++ u.back) = subst (IsLegal m) u.joined p in
     let q' : IsLegal m (v.front ++ v.back) = subst (IsLegal m) v.joined q in
-    let fronts : u.front ≡ v.front = unit_same law m h u.front v.front u.at_front v.at_front (legal_front m u.front u.back p') (legal_front m v.front v.back q') in
+    let fronts : u.front ≡ v.front = unit_same law m al h u.front v.front u.at_front v.at_front (legal_front m u.front u.back p') (legal_front m v.front v.back q') in
     let back : IsLegal (end_of m u.front) v.back = subst (λ (x : List Entry). IsLegal (end_of m x) v.back) (sym fronts) (legal_back m v.front v.back q') in
-    let backs : u.back ≡ v.back = units_same law (end_of m u.front) h n u.back v.back u.at_back v.at_back (legal_back m u.front u.back p') back in
+    let backs : u.back ≡ v.back = units_same law (end_of m u.front) (alone_at_end m u.front al (legal_front m u.front u.back p')) h n u.back v.back u.at_back v.at_back (legal_back m u.front u.back p') back in
     parts_same one other u.front u.back v.front v.back u.joined v.joined fronts backs
 
 -- one command
-block_same : HartsAreDetermined → (m : Moment) (command : Command) (one other : List Entry) → IsBlock command one → IsBlock command other → IsLegal m one → IsLegal m other → one ≡ other
-block_same law m (Step h n) one other u v p q = units_same law m h n one other u v p q
+block_same : HartsAreDetermined → (m : Moment) → IsAlone m.flat → (command : Command) (one other : List Entry) → IsBlock command one → IsBlock command other → IsLegal m one → IsLegal m other → one ≡ other
+block_same law m al (Step h n) one other u v p q = units_same law m al h n one other u v p q
 
 -- a whole script
-pub follows_same : HartsAreDetermined → (m : Moment) (script : List Command) (one other : List Entry) → Follows script one → Follows script other → IsLegal m one → IsLegal m other → one ≡ other
-follows_same law m [] one other u v p q = u ∙ sym v
-follows_same law m (command ∷ script) one other u v p q =
+pub follows_same : HartsAreDetermined → (m : Moment) → IsAlone m.flat → (script : List Command) (one other : List Entry) → Follows script one → Follows script other → IsLegal m one → IsLegal m other → one ≡ other
+follows_same law m al [] one other u v p q = u ∙ sym v
+follows_same law m al (command ∷ script) one other u v p q =
     let p' : IsLegal m (u.front ++ u.back) = subst (IsLegal m) u.joined p in
     let q' : IsLegal m (v.front ++ v.back) = subst (IsLegal m) v.joined q in
-    let fronts : u.front ≡ v.front = block_same law m command u.front v.front u.at_front v.at_front (legal_front m u.front u.back p') (legal_front m v.front v.back q') in
+    let fronts : u.front ≡ v.front = block_same law m al command u.front v.front u.at_front v.at_front (legal_front m u.front u.back p') (legal_front m v.front v.back q') in
     let back : IsLegal (end_of m u.front) v.back = subst (λ (x : List Entry). IsLegal (end_of m x) v.back) (sym fronts) (legal_back m v.front v.back q') in
-    let backs : u.back ≡ v.back = follows_same law (end_of m u.front) script u.back v.back u.at_back v.at_back (legal_back m u.front u.back p') back in
+    let backs : u.back ≡ v.back = follows_same law (end_of m u.front) (alone_at_end m u.front al (legal_front m u.front u.back p')) script u.back v.back u.at_back v.at_back (legal_back m u.front u.back p') back in
     parts_same one other u.front u.back v.front v.back u.joined v.joined fronts backs
 
 -- where what is not built is met, the hart has no unit
@@ -77,24 +78,24 @@ no_unit law m h pc unit meets u p =
     law m.flat h pc unit meets.no_one meets.unbuilt u (subst (λ (x : Moment). IsLegal x unit) rest p)
 
 -- fewer units do not meet it where more are made
-units_past : HartsAreDetermined → UnbuiltHasNoUnit → (m : Moment) (h k n pc : ℕ) (some all : List Entry) → k < n → AreUnits h k some → AreUnits h n all → IsLegal m some → IsLegal m all → MeetsUnbuiltAt (end_of m some) h pc → ⊥
-units_past law none m h k zero pc some all lt u v p q meets = absurd (omega arith)
-units_past law none m h zero (suc n) pc some all lt u v p q meets =
+units_past : HartsAreDetermined → UnbuiltHasNoUnit → (m : Moment) → IsAlone m.flat → (h k n pc : ℕ) (some all : List Entry) → k < n → AreUnits h k some → AreUnits h n all → IsLegal m some → IsLegal m all → MeetsUnbuiltAt (end_of m some) h pc → ⊥
+units_past law none m al h k zero pc some all lt u v p q meets = absurd (omega arith)
+units_past law none m al h zero (suc n) pc some all lt u v p q meets =
     let here : MeetsUnbuiltAt m h pc = subst (λ (x : List Entry). MeetsUnbuiltAt (end_of m x) h pc) u meets in
     no_unit none m h pc v.front here v.at_front (legal_front m v.front v.back (subst (IsLegal m) v.joined q))
-units_past law none m h (suc k) (suc n) pc some all lt u v p q meets =
+units_past law none m al h (suc k) (suc n) pc some all lt u v p q meets =
     let p' : IsLegal m (u.front ++ u.back) = subst (IsLegal m) u.joined p in
     let q' : IsLegal m (v.front ++ v.back) = subst (IsLegal m) v.joined q in
-    let fronts : u.front ≡ v.front = unit_same law m h u.front v.front u.at_front v.at_front (legal_front m u.front u.back p') (legal_front m v.front v.back q') in
+    let fronts : u.front ≡ v.front = unit_same law m al h u.front v.front u.at_front v.at_front (legal_front m u.front u.back p') (legal_front m v.front v.back q') in
     let back : IsLegal (end_of m u.front) v.back = subst (λ (x : List Entry). IsLegal (end_of m x) v.back) (sym fronts) (legal_back m v.front v.back q') in
     let there : MeetsUnbuiltAt (end_of (end_of m u.front) u.back) h pc = subst (λ (x : Moment). MeetsUnbuiltAt x h pc) (ap (end_of m) u.joined ∙ end_of-append m u.front u.back) meets in
-    units_past law none (end_of m u.front) h k n pc u.back v.back (omega arith) u.at_back v.at_back (legal_back m u.front u.back p') back there
+    units_past law none (end_of m u.front) (alone_at_end m u.front al (legal_front m u.front u.back p')) h k n pc u.back v.back (omega arith) u.at_back v.at_back (legal_back m u.front u.back p') back there
 
 -- a cut does not meet it where the whole command is made
-block_past : HartsAreDetermined → UnbuiltHasNoUnit → (m : Moment) (cut command : Command) (hart pc : ℕ) (some all : List Entry) → IsCut cut command hart → IsBlock cut some → IsBlock command all
+block_past : HartsAreDetermined → UnbuiltHasNoUnit → (m : Moment) → IsAlone m.flat → (cut command : Command) (hart pc : ℕ) (some all : List Entry) → IsCut cut command hart → IsBlock cut some → IsBlock command all
     → IsLegal m some → IsLegal m all → MeetsUnbuiltAt (end_of m some) hart pc → ⊥
-block_past law none m (Step h k) (Step g n) hart pc some all c u v p q meets =
-    units_past law none m g k n pc some all c.2 (subst (λ (x : ℕ). AreUnits x k some) c.0 u) v p q (subst (λ (x : ℕ). MeetsUnbuiltAt (end_of m some) x pc) c.1 meets)
+block_past law none m al (Step h k) (Step g n) hart pc some all c u v p q meets =
+    units_past law none m al g k n pc some all c.2 (subst (λ (x : ℕ). AreUnits x k some) c.0 u) v p q (subst (λ (x : ℕ). MeetsUnbuiltAt (end_of m some) x pc) c.1 meets)
 
 -- the pc is the hart's
 same_pc : (m : Moment) (h pc other : ℕ) → MeetsUnbuiltAt m h pc → MeetsUnbuiltAt m h other → pc ≡ other
@@ -105,9 +106,9 @@ same_pc m h pc other p q =
     v.2.2 ∙ ap (λ (hart : HartState). hart.arch.pc) (sym same) ∙ sym w.2.2
 
 -- two cuts of one command meet it at one pc
-cuts_same : HartsAreDetermined → UnbuiltHasNoUnit → (m : Moment) (cut other command : Command) (hart mate pc at : ℕ) (some all : List Entry) → IsCut cut command hart → IsCut other command mate
+cuts_same : HartsAreDetermined → UnbuiltHasNoUnit → (m : Moment) → IsAlone m.flat → (cut other command : Command) (hart mate pc at : ℕ) (some all : List Entry) → IsCut cut command hart → IsCut other command mate
     → IsBlock cut some → IsBlock other all → IsLegal m some → IsLegal m all → MeetsUnbuiltAt (end_of m some) hart pc → MeetsUnbuiltAt (end_of m all) mate at → pc ≡ at
-cuts_same law none m (Step h k) (Step g j) (Step f n) hart mate pc at some all c d u v p q meets reaches =
+cuts_same law none m al (Step h k) (Step g j) (Step f n) hart mate pc at some all c d u v p q meets reaches =
     let u' : AreUnits f k some = subst (λ (x : ℕ). AreUnits x k some) c.0 u in
     let v' : AreUnits f j all = subst (λ (x : ℕ). AreUnits x j all) d.0 v in
     let meets' : MeetsUnbuiltAt (end_of m some) f pc = subst (λ (x : ℕ). MeetsUnbuiltAt (end_of m some) x pc) c.1 meets in
@@ -115,11 +116,11 @@ cuts_same law none m (Step h k) (Step g j) (Step f n) hart mate pc at some all c
     elim (cases_order k j) [
       | inl e ↦ (
           let w : AreUnits f k all = subst (λ (x : ℕ). AreUnits f x all) (sym e) v' in
-          let same : some ≡ all = units_same law m f k some all u' w p q in
+          let same : some ≡ all = units_same law m al f k some all u' w p q in
           same_pc (end_of m all) f pc at (subst (λ (x : List Entry). MeetsUnbuiltAt (end_of m x) f pc) same meets') reaches')
       | inr o ↦ (elim o [
-        | inl lt ↦ absurd (units_past law none m f k j pc some all lt u' v' p q meets')
-        | inr gt ↦ absurd (units_past law none m f j k at all some gt v' u' q p reaches')
+        | inl lt ↦ absurd (units_past law none m al f k j pc some all lt u' v' p q meets')
+        | inr gt ↦ absurd (units_past law none m al f j k at all some gt v' u' q p reaches')
       ])
     ]
 
@@ -153,37 +154,37 @@ in_script : (m : Moment) (script : List Command) (pc : ℕ) → MeetsUnbuilt m s
 in_script m script pc d =
     subst (λ (s : List Command). MeetsIn m s pc) (sym d.script_is) (meets_in m d.front d.cut d.command d.rest d.hart pc d.journal d.is_cut d.follows d.legal d.meets)
 
-one_pc : HartsAreDetermined → UnbuiltHasNoUnit → (m : Moment) (script : List Command) (pc at : ℕ) → MeetsIn m script pc → MeetsIn m script at → pc ≡ at
-one_pc law none m [] pc at p q = absurd p
-one_pc law none m (command ∷ script) pc at p q = elim p [
+one_pc : HartsAreDetermined → UnbuiltHasNoUnit → (m : Moment) → IsAlone m.flat → (script : List Command) (pc at : ℕ) → MeetsIn m script pc → MeetsIn m script at → pc ≡ at
+one_pc law none m al [] pc at p q = absurd p
+one_pc law none m al (command ∷ script) pc at p q = elim p [
   | inl a ↦ (elim q [
-    | inl b ↦ cuts_same law none m a.cut b.cut command a.hart b.hart pc at a.made b.made a.is_cut b.is_cut a.fits b.fits a.legal b.legal a.meets b.meets
-    | inr b ↦ absurd (block_past law none m a.cut command a.hart pc a.made b.0 a.is_cut a.fits b.1 a.legal b.2 a.meets)
+    | inl b ↦ cuts_same law none m al a.cut b.cut command a.hart b.hart pc at a.made b.made a.is_cut b.is_cut a.fits b.fits a.legal b.legal a.meets b.meets
+    | inr b ↦ absurd (block_past law none m al a.cut command a.hart pc a.made b.0 a.is_cut a.fits b.1 a.legal b.2 a.meets)
   ])
   | inr a ↦ (elim q [
-    | inl b ↦ absurd (block_past law none m b.cut command b.hart at b.made a.0 b.is_cut b.fits a.1 b.legal a.2 b.meets)
+    | inl b ↦ absurd (block_past law none m al b.cut command b.hart at b.made a.0 b.is_cut b.fits a.1 b.legal a.2 b.meets)
     | inr b ↦ (
-        let same : a.0 ≡ b.0 = block_same law m command a.0 b.0 a.1 b.1 a.2 b.2 in
-        one_pc law none (end_of m a.0) script pc at a.3 (subst (λ (x : List Entry). MeetsIn (end_of m x) script at) (sym same) b.3))
+        let same : a.0 ≡ b.0 = block_same law m al command a.0 b.0 a.1 b.1 a.2 b.2 in
+        one_pc law none (end_of m a.0) (alone_at_end m a.0 al a.2) script pc at a.3 (subst (λ (x : List Entry). MeetsIn (end_of m x) script at) (sym same) b.3))
   ])
 ]
 
-no_meet : HartsAreDetermined → UnbuiltHasNoUnit → (m : Moment) (script : List Command) (pc : ℕ) (journal : List Entry) → Follows script journal → IsLegal m journal → MeetsIn m script pc → ⊥
-no_meet law none m [] pc journal u p d = d
-no_meet law none m (command ∷ script) pc journal u p d =
+no_meet : HartsAreDetermined → UnbuiltHasNoUnit → (m : Moment) → IsAlone m.flat → (script : List Command) (pc : ℕ) (journal : List Entry) → Follows script journal → IsLegal m journal → MeetsIn m script pc → ⊥
+no_meet law none m al [] pc journal u p d = d
+no_meet law none m al (command ∷ script) pc journal u p d =
     let p' : IsLegal m (u.front ++ u.back) = subst (IsLegal m) u.joined p in
     let front : IsLegal m u.front = legal_front m u.front u.back p' in
     elim d [
-      | inl a ↦ block_past law none m a.cut command a.hart pc a.made u.front a.is_cut a.fits u.at_front a.legal front a.meets
+      | inl a ↦ block_past law none m al a.cut command a.hart pc a.made u.front a.is_cut a.fits u.at_front a.legal front a.meets
       | inr a ↦ (
-          let same : a.0 ≡ u.front = block_same law m command a.0 u.front a.1 u.at_front a.2 front in
-          no_meet law none (end_of m u.front) script pc u.back u.at_back (legal_back m u.front u.back p') (subst (λ (x : List Entry). MeetsIn (end_of m x) script pc) same a.3))
+          let same : a.0 ≡ u.front = block_same law m al command a.0 u.front a.1 u.at_front a.2 front in
+          no_meet law none (end_of m u.front) (alone_at_end m u.front al front) script pc u.back u.at_back (legal_back m u.front u.back p') (subst (λ (x : List Entry). MeetsIn (end_of m x) script pc) same a.3))
     ]
 
 -- a script that is followed to its end meets nothing
-pub meets_nothing : HartsAreDetermined → UnbuiltHasNoUnit → (m : Moment) (script : List Command) (pc : ℕ) (journal : List Entry) → Follows script journal → IsLegal m journal → MeetsUnbuilt m script pc → ⊥
-meets_nothing law none m script pc journal u p d = no_meet law none m script pc journal u p (in_script m script pc d)
+pub meets_nothing : HartsAreDetermined → UnbuiltHasNoUnit → (m : Moment) → IsAlone m.flat → (script : List Command) (pc : ℕ) (journal : List Entry) → Follows script journal → IsLegal m journal → MeetsUnbuilt m script pc → ⊥
+meets_nothing law none m al script pc journal u p d = no_meet law none m al script pc journal u p (in_script m script pc d)
 
 -- what is not built is met at one pc
-pub meets_one : HartsAreDetermined → UnbuiltHasNoUnit → (m : Moment) (script : List Command) (pc at : ℕ) → MeetsUnbuilt m script pc → MeetsUnbuilt m script at → pc ≡ at
-meets_one law none m script pc at p q = one_pc law none m script pc at (in_script m script pc p) (in_script m script at q)
+pub meets_one : HartsAreDetermined → UnbuiltHasNoUnit → (m : Moment) → IsAlone m.flat → (script : List Command) (pc at : ℕ) → MeetsUnbuilt m script pc → MeetsUnbuilt m script at → pc ≡ at
+meets_one law none m al script pc at p q = one_pc law none m al script pc at (in_script m script pc p) (in_script m script at q)

@@ -3,8 +3,13 @@ pub mod LineLemmas
 pub mod ScriptLemmas
 pub mod DeedLemmas
 pub mod StepLemmas
+pub mod AccessLemmas
+pub mod MakingLemmas
+pub mod ServingLemmas
 pub mod CarryLemmas
 pub mod RunLemmas
+pub mod AloneLemmas
+pub mod StartLemmas
 pub mod DeterminedLemmas
 pub mod AnswerLemmas
 pub mod PutLemmas

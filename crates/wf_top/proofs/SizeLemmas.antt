@@ -1,5 +1,5 @@
 -- A plain image and one hart take ten frames.
-use Rattle.std.proofs.Common.{◌≡◌, ℕ, List, [], ◌∷◌, length, refl, arith, lit≤, ◌≤◌, Option, Some, None, Bool, true, false, cond}
+use Rattle.std.proofs.Common.{◌≡◌, ℕ, List, [], ◌∷◌, length, refl, sym, subst, arith, lit≤, ◌≤◌, Option, Some, None, Bool, true, false, cond}
 use Rattle.wf_top.specs.Answers.{Reads}
 use Rattle.std.specs.List.{AllByRecursion}
 use Rattle.std.specs.Prelude.{IfSome}
@@ -8,19 +8,25 @@ use Rattle.wf_top.specs.declared.script.Command.TheVariants.{Step}
 use Rattle.wf_top.specs.PlainScript.{IsPlain}
 use Rattle.wf_top.specs.Stepping.{IsResting, IsThere}
 use Rattle.wf_outside.specs.Images.{ImageValue}
+use Rattle.wf_flat.specs.State.{FlatState}
+use Rattle.wf_flat.specs.Ordered.{IsOrdered}
 use Rattle.wf_flat.specs.Counts.{used_of, places_with}
 use Rattle.wf_flat.specs.Boot.{boot_of, stacks_of, numbered_from, boot_harts}
 use Rattle.wf_top.specs.PlainImage.{plain_text, is_plain_image, image_of}
 use Rattle.wf_top.specs.Running.{sizes}
+use Rattle.wf_top.proofs.StartLemmas.{boot_fresh}
 
 pub frames_of_plain : (bytes : List ℕ) → used_of (boot_of (record { text = plain_text bytes ∷ []; pages = []; entry = 0x10000; names = []; end = 0x11 }) 1 sizes) ≡ 10
 unfolding plain_text places_with stacks_of numbered_from
 frames_of_plain bytes = refl
 
 -- the machine is at rest at the start
-pub start_rests : (image : ImageValue) → IsResting (boot_of image 1 sizes)
+boot_rests : (image : ImageValue) → IsOrdered (boot_of image 1 sizes) → IsResting (boot_of image 1 sizes)
 unfolding boot_harts
-start_rests image = record { no_one = refl; no_try = (refl, tt) }
+boot_rests image ordered = record { no_one = refl; no_try = (refl, tt); single = record { alone = refl; ordered = ordered }; free = boot_fresh image 1 }
+
+pub start_rests : (image : ImageValue) (flat : FlatState) → flat ≡ boot_of image 1 sizes → IsOrdered flat → IsResting flat
+start_rests image flat e ordered = subst IsResting (sym e) (boot_rests image (subst IsOrdered e ordered))
 
 pub one_hart : (image : ImageValue) → length (boot_of image 1 sizes).harts ≡ 1
 unfolding boot_harts

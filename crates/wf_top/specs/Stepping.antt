@@ -1,32 +1,54 @@
 -- What the machine that steps keeps, and how far it has come.
-use Rattle.std.specs.Prelude.{◌≡◌, ◌≢◌, ◌<◌, ◌++◌, ◌%◌, ℕ, zero, suc, List, [], ◌∷◌, false, Some, None, IsSomeAnd, slice_index}
+use Rattle.std.specs.Prelude.{◌≡◌, ◌≢◌, ◌⊎◌, ◌<◌, ◌++◌, ◌%◌, ℕ, zero, suc, List, [], ◌∷◌, true, false, not, Option, Some, None, IfSome, IsSomeAnd, length, map, nat_lt, slice_index}
 use Rattle.std.specs.List.{AllByRecursion}
+use Rattle.rv_inst.specs.declared.inst.Inst.{Inst}
 use Rattle.rv_inst.specs.declared.inst.Inst.TheVariants.{Ecall}
+use Rattle.rv_inst.specs.declared.want.Want.{Want}
 use Rattle.rv_inst.specs.declared.want.Want.TheVariants.{Nothing}
+use Rattle.rv_inst.specs.declared.want.Want.TheVariants as want
 use Rattle.rv_inst.specs.Arch.{ArchState}
 use Rattle.rv_inst.specs.Decoding.{inst_of}
+use Rattle.rv_inst.specs.Spelling.{IsSpelled}
 use Rattle.rv_inst.specs.Meanings.{meaning_of}
 use Rattle.wf_flat.specs.declared.event.Actor.TheVariants.{Hart}
+use Rattle.wf_flat.specs.declared.state.Stage.TheVariants.{Here}
 use Rattle.wf_flat.specs.declared.state.Life.TheVariants.{Running}
-use Rattle.wf_flat.specs.Memory.{word_at}
-use Rattle.wf_flat.specs.Steps.{OfHart, Stopped as Asked, text_of, inst_in, want_in, built_want, ask_of_word, arch_after}
-use Rattle.wf_flat.specs.Calls.{Todo, todo_by}
+use Rattle.wf_flat.specs.Lists.{IsRising}
+use Rattle.wf_flat.specs.Memory.{IsPlace, page_of, data_in, word_at, has_met, with_met, met_key}
+use Rattle.wf_flat.specs.Ordered.{IsOrdered}
+use Rattle.wf_flat.specs.Accesses.{held_by}
+use Rattle.wf_flat.specs.Steps.{OfHart, text_of, inst_in, want_in, access_in, built_want, is_done, arch_after}
+use Rattle.wf_flat.specs.declared.event.Event.TheVariants.{Sync}
+use Rattle.wf_flat.specs.Calls.{Todo, Exactly, todo_by}
 use Rattle.wf_flat.specs.declared.event.Entry.{Entry}
-use Rattle.wf_flat.specs.State.{FlatState, HartState}
+use Rattle.wf_flat.specs.State.{FlatState, HartState, PageState}
 use Rattle.wf_flat.specs.Legal.{IsLegal, end_of, at_rest}
 use Rattle.wf_flat.specs.Follows.{AreUnits, ends_unit}
+use Rattle.wf_top.specs.declared.accesses.Found.{Found}
 use Rattle.wf_top.specs.declared.stepping.Start.{Start}
 use Rattle.wf_top.specs.declared.stepping.Start.TheVariants.{Stopped, Word, Fault}
+use Rattle.wf_top.specs.declared.deeds.Operand.{Operand}
 use Rattle.wf_top.specs.declared.deeds.Deed.{Deed}
-use Rattle.wf_top.specs.declared.deeds.Deed.TheVariants.{Run, Trap, Exit, Out, OwnGeneration, Refuse}
+use Rattle.wf_top.specs.declared.deeds.Deed.TheVariants.{Run, Load, Store, Trap, Exit, Out, OwnGeneration, Refuse}
 use Rattle.wf_top.specs.declared.script.Command.{Command}
 use Rattle.wf_top.specs.declared.script.Command.TheVariants.{Step}
 use Rattle.wf_top.specs.Follows.{IsBlock, IsCut, MeetsUnbuiltAt}
 
--- nobody is inside, and no hart is in a try
+-- a page that is Here and that nobody holds
+abbrev pub IsFree : PageState → Type 0
+IsFree page = (page.stage ≡ Here) × (page.holder ≡ None)
+
+-- one hart, and its pages and what was met in their order
+pub record IsSingle (s : FlatState) : Type 0 where
+  pub alone : length s.harts ≡ 1
+  pub ordered : IsOrdered s
+
+-- nobody is inside, no hart is in a try, and no page is held or leaving
 pub record IsResting (s : FlatState) : Type 0 where
   pub no_one : s.inside ≡ None
   pub no_try : AllByRecursion (λ hart. hart.fetched ≡ None) s.harts
+  pub single : IsSingle s
+  pub free : AllByRecursion IsFree s.pages
 
 -- what holds of all but the one at a place
 abbrev pub AllBut : {A : Type 0} → (A → Type 0) → ℕ → List A → Type 0
@@ -34,10 +56,62 @@ AllBut P at [] = Unit {0}
 AllBut P zero (x ∷ xs) = AllByRecursion P xs
 AllBut P (suc at) (x ∷ xs) = P x × AllBut P at xs
 
--- nobody is inside, and no hart but this one is in a try
-pub record IsTrying (s : FlatState) (h : ℕ) : Type 0 where
+-- nobody is inside, no hart but this one is in a try, no page is leaving, and none is held but this one, if any
+pub record IsActing (s : FlatState) (h : ℕ) (held : Option ℕ) : Type 0 where
   pub no_one : s.inside ≡ None
   pub others : AllBut (λ hart. hart.fetched ≡ None) h s.harts
+  pub single : IsSingle s
+  pub pages : AllByRecursion (λ page. (page.stage ≡ Here) × ((page.holder ≡ None) ⊎ (held ≡ Some page.number))) s.pages
+
+-- a hart that runs is in a try of a word, with these registers, and has done nothing in it
+abbrev pub IsInTry : ArchState → ℕ → HartState → Type 0
+IsInTry arch word hart = (hart.life ≡ Running) × (hart.fetched ≡ Some word) × (hart.looked ≡ None) × (hart.arch ≡ arch) × (hart.put ≡ false) × (hart.moved ≡ [])
+
+-- a hart that runs is in a try of an instruction that wants this, has these registers, and has no answer yet
+abbrev pub InAccess : FlatState → ℕ → ArchState → Inst → Want → Type 0
+InAccess s h arch inst want = OfHart s h (λ hart. (hart.life ≡ Running) × (inst_in hart ≡ Some inst) × (want_in hart ≡ Some want) × (hart.arch ≡ arch)
+    × (hart.looked ≡ None) × (hart.put ≡ false) × (hart.moved ≡ []))
+
+-- a hart that runs is in a try of an instruction that is done, holds this page, if any, and leaves these registers
+abbrev pub IsDone : FlatState → ℕ → Option ℕ → ArchState → Type 0
+IsDone s h held next = OfHart s h (λ hart. (hart.life ≡ Running) × (is_done hart (want_in hart) ≡ true) × (held ≡ held_by s h (access_in hart)) × (next ≡ arch_after hart))
+
+-- what an access finds in the data: a page, its right, whether its count of writes is the last, and whether the hart's
+-- generation has met it
+abbrev pub IsFound : FlatState → ℕ → Found → Type 0
+IsFound s number found = IsSomeAnd (data_in s.pages number) (λ page. (found.page ≡ page.number) × (found.write ≡ page.write) × (found.last ≡ not (nat_lt page.writes s.limits.last_writes)))
+
+abbrev pub IsPlaceOf : FlatState → ℕ → ℕ → Option Found → Type 0
+IsPlaceOf s h va None = data_in s.pages (page_of va) ≡ None
+IsPlaceOf s h va (Some found) = IsFound s (page_of va) found × OfHart s h (λ hart. found.met ≡ has_met s.met hart.generation found.page)
+
+-- what generations will have met where an access is to a page that the hart's own has not met; else nothing
+abbrev pub IsUnmet : FlatState → ℕ → ℕ → Option (List (ℕ × ℕ)) → Type 0
+IsUnmet s h va None = IfSome (data_in s.pages (page_of va)) (λ page. OfHart s h (λ hart. has_met s.met hart.generation page.number ≡ true))
+IsUnmet s h va (Some met) = IsSomeAnd (data_in s.pages (page_of va)) (λ page. OfHart s h (λ hart. (has_met s.met hart.generation page.number ≡ false) × (met ≡ with_met s.met hart.generation page.number)))
+    × IsRising (map met_key met)
+
+-- a hart that runs asks for what takes these events
+abbrev pub IsToDo : FlatState → ℕ → HartState → List Todo → Type 0
+IsToDo s h hart todo = (hart.life ≡ Running) × (todo_by s h hart ≡ Some todo)
+
+-- a hart's generation has met a page; or else it is to meet it, and this is what will be met then
+abbrev pub IsMeeting : FlatState → ℕ → ℕ → Option (List (ℕ × ℕ)) → Type 0
+IsMeeting s h page None = OfHart s h (λ hart. has_met s.met hart.generation page ≡ true)
+IsMeeting s h page (Some met) = OfHart s h (λ hart. IsToDo s h hart (Exactly (Sync hart.generation page) ∷ []) × (met ≡ with_met s.met hart.generation page)) × IsRising (map met_key met)
+
+-- what generations will have met where a deed makes a hart's own meet a page
+abbrev pub IsToMeet : FlatState → ℕ → Deed → Option (List (ℕ × ℕ)) → Type 0
+IsToMeet s h (Load operand) met = IsUnmet s h operand.va met
+IsToMeet s h (Store operand value) met = IsUnmet s h operand.va met
+IsToMeet s h deed met = Unit {0}
+
+-- pages, texts, sizes and harts are the same
+pub record IsSame (old new : FlatState) : Type 0 where
+  pub pages : new.pages ≡ old.pages
+  pub gens : new.gens ≡ old.gens
+  pub limits : new.limits ≡ old.limits
+  pub harts : new.harts ≡ old.harts
 
 -- a hart that runs is in no try, at this pc, where its text has this word
 abbrev pub IsAt : FlatState → HartState → ℕ → ℕ → Type 0
@@ -49,22 +123,24 @@ IsStart s h Stopped = OfHart s h (λ hart. hart.life ≢ Running)
 IsStart s h (Word arch word) = OfHart s h (λ hart. (hart.life ≡ Running) × (hart.arch ≡ arch) × (word_at (text_of s hart.generation) arch.pc ≡ Some word))
 IsStart s h (Fault pc) = OfHart s h (λ hart. (hart.life ≡ Running) × (hart.arch.pc ≡ pc) × (word_at (text_of s hart.generation) pc ≡ None))
 
--- a hart that runs is in a try of an instruction that wants nothing, and leaves these registers
-abbrev pub EndsWith : HartState → ArchState → Type 0
-EndsWith hart next = (hart.life ≡ Running) × (want_in hart ≡ Some Nothing) × (next ≡ arch_after hart)
+-- the trap of a word that is no instruction, or whose instruction wants it
+abbrev pub IsTrapOf : ArchState → ℕ → Option Inst → ℕ → ℕ → Type 0
+IsTrapOf arch word None cause value = (cause ≡ 2) × (value ≡ word)
+IsTrapOf arch word (Some inst) cause value = built_want inst arch ≡ Some (want.Trap cause value)
 
--- a hart that runs asks for what takes these events
-abbrev pub IsToDo : FlatState → HartState → List Todo → Type 0
-IsToDo s hart todo = (hart.life ≡ Running) × (todo_by s hart ≡ Some todo)
+-- what an instruction loads from, and what it stores a value to
+abbrev pub IsLoad : ArchState → Operand → Type 0
+IsLoad arch operand = (built_want operand.inst arch ≡ Some (want.Look operand.va operand.width)) × IsSpelled operand.inst × IsPlace operand.va operand.width
 
--- the instruction of its try is an ecall, and its call is not that of the own generation
-abbrev pub IsCalling : HartState → Type 0
-IsCalling hart = (inst_in hart ≡ Some Ecall) × (slice_index hart.arch.x 17 ≢ 4)
+abbrev pub IsStore : ArchState → Operand → ℕ → Type 0
+IsStore arch operand value = (built_want operand.inst arch ≡ Some (want.Put operand.va operand.width value)) × IsSpelled operand.inst × IsPlace operand.va operand.width
 
 -- what a hart with these registers is to do with a word
 abbrev pub IsDeed : ArchState → ℕ → Deed → Type 0
 IsDeed arch word (Run next) = IsSomeAnd (inst_of word) (λ inst. (built_want inst arch ≡ Some Nothing) × (next ≡ meaning_of inst arch 0))
-IsDeed arch word (Trap cause value) = ask_of_word arch word (inst_of word) ≡ Some (Asked cause value)
+IsDeed arch word (Load operand) = (inst_of word ≡ Some operand.inst) × IsLoad arch operand
+IsDeed arch word (Store operand value) = (inst_of word ≡ Some operand.inst) × IsStore arch operand value
+IsDeed arch word (Trap cause value) = IsTrapOf arch word (inst_of word) cause value
 IsDeed arch word (Exit code) = (inst_of word ≡ Some Ecall) × (slice_index arch.x 17 ≡ 0) × (code ≡ slice_index arch.x 10)
 IsDeed arch word (Out byte) = (inst_of word ≡ Some Ecall) × (slice_index arch.x 17 ≡ 1) × (byte ≡ slice_index arch.x 10 % 256)
 IsDeed arch word OwnGeneration = (inst_of word ≡ Some Ecall) × (slice_index arch.x 17 ≡ 4)

@@ -1,5 +1,5 @@
 //! What a hart is to do with a word.
-ghost use Rattle.std.specs.Prelude.{◌≡◌, IfSome, None, Some, ℕ, false, slice_index};
+ghost use Rattle.std.specs.Prelude.{◌≡◌, ◌≢◌, IfSome, None, Some, ℕ, false, slice_index};
 ghost use Rattle.rv_inst.specs.Decoding.{inst_of};
 ghost use Rattle.rv_inst.specs.Spelling.{IsSpelled};
 ghost use Rattle.rv_inst.specs.Meanings.{want_of, meaning_of};
@@ -12,11 +12,26 @@ use rv_alu::AluOp;
 use rv_hart::{finish, plan};
 use rv_inst::{Arch, Inst, Want, decode};
 
+/// What an instruction loads from or stores to.
+#[derive(Clone, Copy, Debug, PartialEq, Eq)]
+pub struct Operand {
+    /// The instruction.
+    pub inst: Inst,
+    /// The address, a multiple of the width.
+    pub va: u64,
+    /// Its bytes: 1, 2, 4 or 8.
+    pub width: u8,
+}
+
 /// What a hart does with the word that it fetched.
 #[derive(Clone, Copy, Debug, PartialEq, Eq)]
 pub enum Deed {
     /// The instruction wants nothing, and leaves these registers.
     Run { next: Arch },
+    /// It loads.
+    Load { operand: Operand },
+    /// It stores the low bytes of a value.
+    Store { operand: Operand, value: u64 },
     /// It stops with a trap.
     Trap { cause: u8, value: u64 },
     /// It exits.
@@ -30,6 +45,7 @@ pub enum Deed {
 }
 
 /// What a hart with these registers does with a word; `None` where it is not built.
+#[tactic(auto, using(crate::proofs::DeedLemmas::places))]
 pub fn deed_of(arch: &Arch, word: u32) -> Option<Deed>
     ensures deed { IfSome result (λ deed. IsDeed arch.now word deed) }
     ensures none { (hart : HartState) → hart.arch ≡ arch.now → result ≡ None → IsUnbuiltInst hart (inst_of word) }
@@ -46,7 +62,13 @@ pub fn deed_of(arch: &Arch, word: u32) -> Option<Deed>
         }),
         Want::Trap { cause, value } => Some(Deed::Trap { cause, value }),
         Want::Call => call_of(arch),
-        Want::Look { .. } | Want::Put { .. } => None,
+        Want::Look { va, width } => Some(Deed::Load {
+            operand: Operand { inst, va, width },
+        }),
+        Want::Put { va, width, value } => Some(Deed::Store {
+            operand: Operand { inst, va, width },
+            value,
+        }),
         Want::Swap { .. } | Want::Reserve { .. } | Want::PutIf { .. } => None,
     }
 }
@@ -66,7 +88,7 @@ fn is_built(inst: Inst) -> bool
     ensures { result ≡ built.is_built inst }
 {
     match inst {
-        Inst::Load { .. } | Inst::Store { .. } => false,
+        Inst::Load { .. } | Inst::Store { .. } => true,
         Inst::Alu { op, .. } => is_base(op),
         Inst::Amo { .. } | Inst::Lr { .. } | Inst::Sc { .. } => false,
         Inst::Lui { .. } | Inst::Auipc { .. } | Inst::Jal { .. } | Inst::Jalr { .. } => true,
@@ -96,8 +118,18 @@ fn arch_after(arch: &Arch, inst: Inst) -> Arch
     requires quiet { want_of inst arch.now ≡ Want.Nothing }
     ensures { result ≡ meaning_of inst arch.now 0 }
 {
+    finished(arch, inst, 0)
+}
+
+/// The registers after an instruction that read this, or that wants nothing.
+pub fn finished(arch: &Arch, inst: Inst, got: u64) -> Arch
+    requires spelled { IsSpelled inst }
+    requires own { want_of inst arch.now ≢ Want.Call }
+    requires no_trap { (cause value : ℕ) → want_of inst arch.now ≢ Want.Trap cause value }
+    ensures { result ≡ meaning_of inst arch.now got }
+{
     let mut next = *arch;
-    finish(&mut next, inst, 0);
+    finish(&mut next, inst, got);
     next
 }
 

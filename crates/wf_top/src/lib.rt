@@ -1,6 +1,9 @@
 //! The runs of the program.
 #![tactic(auto)]
 
+#[cfg(test)]
+mod access_tests;
+mod accesses;
 mod deeds;
 mod input;
 mod laws;

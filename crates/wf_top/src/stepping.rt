@@ -1,5 +1,5 @@
 //! What steps the machine: units of harts, and the commands of a script.
-ghost use Rattle.std.specs.Prelude.{◌≡◌, ◌≢◌, ◌<◌, ◌+◌, ◌++◌, ◌∷◌, [], ℕ, List, OnOk, OnErr, None, Some, Err, length, slice_get, vec_len, vec_capacity};
+ghost use Rattle.std.specs.Prelude.{◌≡◌, ◌≢◌, ◌<◌, ◌+◌, ◌++◌, ◌∷◌, [], ℕ, List, OnOk, OnErr, IfOk, Option, None, Some, Err, length, slice_get, vec_len, vec_capacity};
 ghost use Rattle.std.specs.List.{AllByRecursion};
 ghost use Rattle.std.specs.Option.{option_map};
 ghost use Rattle.rv_inst.specs.Meanings.{called};
@@ -9,24 +9,26 @@ ghost use Rattle.wf_flat.specs.declared.event.Entry.{Entry as FlatEntry};
 ghost use Rattle.wf_flat.specs.declared.state.Life.TheVariants.{Running};
 ghost use Rattle.wf_flat.specs.State.{FlatState};
 ghost use Rattle.wf_flat.specs.Refusals.{refused_answer};
-ghost use Rattle.wf_flat.specs.Steps.{OfHart, fetched_with, answered, arch_after};
+ghost use Rattle.wf_flat.specs.Steps.{OfHart, access_in, fetched_with, answered, arch_after};
 ghost use Rattle.wf_flat.specs.Calls.{Exactly};
+ghost use Rattle.wf_flat.specs.Ordered.{IsOrdered};
 ghost use Rattle.wf_flat.specs.Legal.{at_rest};
 ghost use Rattle.wf_flat.specs.Follows.{IsUnit, AreUnits};
 ghost use Rattle.wf_flat.specs.Unbuilt.{IsUnbuilt};
 ghost use Rattle.wf_top.specs.Follows.{IsBlock, Follows, MeetsUnbuilt};
-ghost use Rattle.wf_top.specs.Stepping.{IsStart, IsResting, IsTrying, IsThere, IsAt, IsToDo, EndsWith, IsDeed, Begins, Continues, StopsIn};
+ghost use Rattle.wf_top.specs.Stepping.{IsStart, IsResting, IsActing, IsThere, IsAt, IsInTry, IsToDo, IsToMeet, IsDone, IsDeed, Begins, Continues, StopsIn};
 
+use crate::accesses::{load, store, unmet};
 use crate::deeds::{Deed, deed_of};
 use crate::script::Command;
 use rv_hart::finish_call;
 use rv_inst::Arch;
 use std::alloc::AllocError;
 use wf_flat::{Actor, Entry, Event, Flat, Life};
-use wf_outside::Refusal;
+use wf_outside::{Memory, Refusal};
 
 // The most entries that a unit makes.
-const MOST: usize = 4;
+const MOST: usize = 6;
 
 // What a call answers in a0 where none has its number: -10.
 const NO_SUCH_CALL: u64 = 0xFFFF_FFFF_FFFF_FFF6;
@@ -40,6 +42,17 @@ pub enum StepFault {
     Memory,
 }
 
+impl From<Memory> for StepFault {
+    ghost use Rattle.std.specs.Prelude.{◌≡◌};
+    ghost use Rattle.wf_top.specs.declared.stepping.StepFault.TheVariants as faults;
+
+    ghost from_gives = { λ _ e. e ≡ faults.Memory };
+
+    fn from(_: Memory) -> Self {
+        StepFault::Memory
+    }
+}
+
 impl From<AllocError> for StepFault {
     ghost use Rattle.std.specs.Prelude.{◌≡◌};
     ghost use Rattle.wf_top.specs.declared.stepping.StepFault.TheVariants as faults;
@@ -51,8 +64,8 @@ impl From<AllocError> for StepFault {
     }
 }
 
-// An entry of a hart, for which there is room.
-fn note(journal: &mut Vec<Entry>, h: u8, event: Event)
+/// An entry of a hart, for which there is room.
+pub fn note(journal: &mut Vec<Entry>, h: u8, event: Event)
     requires { vec_len journal.old < vec_capacity journal.old }
     ensures items { journal.new.items ≡ journal.old.items ++ record { actor = Actor.Hart h; event = event } ∷ [] }
     ensures len { vec_len journal.new ≡ vec_len journal.old + 1 }
@@ -67,11 +80,12 @@ fn note(journal: &mut Vec<Entry>, h: u8, event: Event)
 // A try begins: a hart fetches the word at its pc.
 fn fetch(flat: &mut Flat, journal: &mut Vec<Entry>, h: u8, pc: u64, word: u32)
     requires room { vec_len journal.old < vec_capacity journal.old }
-    requires tries { IsTrying flat.old h }
+    requires acts { IsActing flat.old h None }
     requires ready { OfHart flat.old h (λ hart. IsAt flat.old hart pc word) }
     ensures made { (s : FlatState) (before : List FlatEntry) → Begins s before flat.old journal.old.items h → Begins s before flat.new journal.new.items h }
-    ensures tries { IsTrying flat.new h }
+    ensures acts { IsActing flat.new h None }
     ensures hart { slice_get flat.new.harts h ≡ option_map (fetched_with word) (slice_get flat.old.harts h) }
+    ensures meets { (deed : Deed) (met : Option (List (ℕ × ℕ))) → IsToMeet flat.old h deed met → IsToMeet flat.new h deed met }
     ensures harts { length flat.new.harts ≡ length flat.old.harts }
     ensures len { vec_len journal.new ≡ vec_len journal.old + 1 }
     ensures capacity { vec_capacity journal.new ≡ vec_capacity journal.old }
@@ -80,24 +94,25 @@ fn fetch(flat: &mut Flat, journal: &mut Vec<Entry>, h: u8, pc: u64, word: u32)
     note(journal, h, Event::Fetch { pc, word });
 }
 
-// A try ends: its instruction wants nothing, and leaves these registers.
-fn end(flat: &mut Flat, journal: &mut Vec<Entry>, h: u8, next: Arch)
+/// A try ends: its instruction is done, and leaves these registers; the page that it holds, if any, is
+/// given back.
+pub fn end(flat: &mut Flat, journal: &mut Vec<Entry>, h: u8, held: Option<u32>, next: Arch)
     requires room { vec_len journal.old < vec_capacity journal.old }
-    requires tries { IsTrying flat.old h }
-    requires ready { OfHart flat.old h (λ hart. EndsWith hart next) }
+    requires acts { IsActing flat.old h held }
+    requires done { IsDone flat.old h held next }
     ensures made { (s : FlatState) (before : List FlatEntry) → Begins s before flat.old journal.old.items h → Continues s before flat.new journal.new.items (IsUnit h) }
     ensures rests { IsResting flat.new }
     ensures harts { length flat.new.harts ≡ length flat.old.harts }
 {
-    flat.end(h, next);
+    flat.end(h, held, next);
     note(journal, h, Event::End { pc: next.pc });
 }
 
-// A hart asks for its trap, and stops.
-fn trap(flat: &mut Flat, journal: &mut Vec<Entry>, h: u8, cause: u8, value: u64)
+/// A hart asks for its trap, and stops.
+pub fn trap(flat: &mut Flat, journal: &mut Vec<Entry>, h: u8, cause: u8, value: u64)
     requires room { vec_len journal.old + 1 < vec_capacity journal.old }
-    requires tries { IsTrying flat.old h }
-    requires ready { OfHart flat.old h (λ hart. IsToDo flat.old hart (Exactly (events.Trap cause value) ∷ [])) }
+    requires acts { IsActing flat.old h None }
+    requires ready { OfHart flat.old h (λ hart. IsToDo flat.old h hart (Exactly (events.Trap cause value) ∷ [])) }
     ensures made { (s : FlatState) (before : List FlatEntry) → Begins s before flat.old journal.old.items h → Continues s before flat.new journal.new.items (IsUnit h) }
     ensures rests { IsResting flat.new }
     ensures harts { length flat.new.harts ≡ length flat.old.harts }
@@ -111,8 +126,8 @@ fn trap(flat: &mut Flat, journal: &mut Vec<Entry>, h: u8, cause: u8, value: u64)
 // A hart exits.
 fn exit(flat: &mut Flat, journal: &mut Vec<Entry>, h: u8, code: u64)
     requires room { vec_len journal.old + 1 < vec_capacity journal.old }
-    requires tries { IsTrying flat.old h }
-    requires ready { OfHart flat.old h (λ hart. IsToDo flat.old hart (Exactly (events.Exit code) ∷ [])) }
+    requires acts { IsActing flat.old h None }
+    requires ready { OfHart flat.old h (λ hart. IsToDo flat.old h hart (Exactly (events.Exit code) ∷ [])) }
     ensures made { (s : FlatState) (before : List FlatEntry) → Begins s before flat.old journal.old.items h → Continues s before flat.new journal.new.items (IsUnit h) }
     ensures rests { IsResting flat.new }
     ensures harts { length flat.new.harts ≡ length flat.old.harts }
@@ -126,14 +141,15 @@ fn exit(flat: &mut Flat, journal: &mut Vec<Entry>, h: u8, code: u64)
 // A call ends at once, and leaves these registers.
 fn answer(flat: &mut Flat, journal: &mut Vec<Entry>, h: u8, next: Arch)
     requires room { vec_len journal.old + 1 < vec_capacity journal.old }
-    requires tries { IsTrying flat.old h }
-    requires ready { OfHart flat.old h (λ hart. IsToDo flat.old hart (Exactly (events.End next.pc) ∷ []) × (next ≡ arch_after hart)) }
+    requires acts { IsActing flat.old h None }
+    requires call { OfHart flat.old h (λ hart. access_in hart ≡ None) }
+    requires ready { OfHart flat.old h (λ hart. IsToDo flat.old h hart (Exactly (events.End next.pc) ∷ []) × (next ≡ arch_after hart)) }
     ensures made { (s : FlatState) (before : List FlatEntry) → Begins s before flat.old journal.old.items h → Continues s before flat.new journal.new.items (IsUnit h) }
     ensures rests { IsResting flat.new }
     ensures harts { length flat.new.harts ≡ length flat.old.harts }
 {
     flat.enter(Actor::Hart(h));
-    flat.end(h, next);
+    flat.end(h, None, next);
     note(journal, h, Event::Enter);
     note(journal, h, Event::End { pc: next.pc });
 }
@@ -141,15 +157,16 @@ fn answer(flat: &mut Flat, journal: &mut Vec<Entry>, h: u8, next: Arch)
 // A byte is put, and the call leaves these registers.
 fn put_byte(flat: &mut Flat, journal: &mut Vec<Entry>, h: u8, byte: u8, next: Arch)
     requires room { vec_len journal.old + 2 < vec_capacity journal.old }
-    requires tries { IsTrying flat.old h }
-    requires ready { OfHart flat.old h (λ hart. IsToDo flat.old hart (Exactly (events.Out byte) ∷ Exactly (events.End next.pc) ∷ []) × (next ≡ arch_after (answered 0 hart))) }
+    requires acts { IsActing flat.old h None }
+    requires call { OfHart flat.old h (λ hart. access_in hart ≡ None) }
+    requires ready { OfHart flat.old h (λ hart. IsToDo flat.old h hart (Exactly (events.Out byte) ∷ Exactly (events.End next.pc) ∷ []) × (next ≡ arch_after (answered 0 hart))) }
     ensures made { (s : FlatState) (before : List FlatEntry) → Begins s before flat.old journal.old.items h → Continues s before flat.new journal.new.items (IsUnit h) }
     ensures rests { IsResting flat.new }
     ensures harts { length flat.new.harts ≡ length flat.old.harts }
 {
     flat.enter(Actor::Hart(h));
     flat.out(h, byte);
-    flat.end(h, next);
+    flat.end(h, None, next);
     note(journal, h, Event::Enter);
     note(journal, h, Event::Out { byte });
     note(journal, h, Event::End { pc: next.pc });
@@ -158,8 +175,9 @@ fn put_byte(flat: &mut Flat, journal: &mut Vec<Entry>, h: u8, byte: u8, next: Ar
 // A call is refused, since none has its number, and leaves these registers.
 fn refuse(flat: &mut Flat, journal: &mut Vec<Entry>, h: u8, number: u64, next: Arch)
     requires room { vec_len journal.old + 2 < vec_capacity journal.old }
-    requires tries { IsTrying flat.old h }
-    requires ready { OfHart flat.old h (λ hart. IsToDo flat.old hart (Exactly (events.Refused (refusals.Number number)) ∷ Exactly (events.End next.pc) ∷ [])
+    requires acts { IsActing flat.old h None }
+    requires call { OfHart flat.old h (λ hart. access_in hart ≡ None) }
+    requires ready { OfHart flat.old h (λ hart. IsToDo flat.old h hart (Exactly (events.Refused (refusals.Number number)) ∷ Exactly (events.End next.pc) ∷ [])
         × (next ≡ arch_after (answered (refused_answer (refusals.Number number)) hart))) }
     ensures made { (s : FlatState) (before : List FlatEntry) → Begins s before flat.old journal.old.items h → Continues s before flat.new journal.new.items (IsUnit h) }
     ensures rests { IsResting flat.new }
@@ -168,7 +186,7 @@ fn refuse(flat: &mut Flat, journal: &mut Vec<Entry>, h: u8, number: u64, next: A
     let reason = Refusal::Number { n: number };
     flat.enter(Actor::Hart(h));
     flat.refuse(h, reason);
-    flat.end(h, next);
+    flat.end(h, None, next);
     note(journal, h, Event::Enter);
     note(journal, h, Event::Refused { reason });
     note(journal, h, Event::End { pc: next.pc });
@@ -184,17 +202,28 @@ fn behind(arch: &Arch, answer: u64) -> Arch
 }
 
 // A hart in a try of a word does what it is to do.
-fn carry_out(flat: &mut Flat, journal: &mut Vec<Entry>, h: u8, arch: &Arch, word: u32, deed: Deed)
-    requires room { vec_len journal.old + 2 < vec_capacity journal.old }
-    requires tries { IsTrying flat.old h }
-    requires ready { OfHart flat.old h (λ hart. (hart.life ≡ Running) × (hart.fetched ≡ Some word) × (hart.looked ≡ None) × (hart.arch ≡ arch.now)) }
+fn carry_out(
+    flat: &mut Flat,
+    journal: &mut Vec<Entry>,
+    h: u8,
+    arch: &Arch,
+    word: u32,
+    deed: Deed,
+    met: Option<Vec<(u32, u32)>>,
+)
+    requires room { vec_len journal.old + 4 < vec_capacity journal.old }
+    requires acts { IsActing flat.old h None }
+    requires ready { OfHart flat.old h (IsInTry arch.now word) }
     requires deed { IsDeed arch.now word deed }
+    requires met { IsToMeet flat.old h deed (option_map (λ v. v.items) met) }
     ensures made { (s : FlatState) (before : List FlatEntry) → Begins s before flat.old journal.old.items h → Continues s before flat.new journal.new.items (IsUnit h) }
     ensures rests { IsResting flat.new }
     ensures harts { length flat.new.harts ≡ length flat.old.harts }
 {
     match deed {
-        Deed::Run { next } => end(flat, journal, h, next),
+        Deed::Run { next } => end(flat, journal, h, None, next),
+        Deed::Load { operand } => load(flat, journal, h, arch, operand, met),
+        Deed::Store { operand, value } => store(flat, journal, h, arch, operand, value, met),
         Deed::Trap { cause, value } => trap(flat, journal, h, cause, value),
         Deed::Exit { code } => exit(flat, journal, h, code),
         Deed::Out { byte } => put_byte(flat, journal, h, byte, behind(arch, 0)),
@@ -208,6 +237,18 @@ fn carry_out(flat: &mut Flat, journal: &mut Vec<Entry>, h: u8, arch: &Arch, word
     }
 }
 
+// What the generations will have met where a deed makes a hart's own meet a page; else `None`.
+fn to_meet(flat: &Flat, h: u8, deed: &Deed) -> Result<Option<Vec<(u32, u32)>>, Memory>
+    requires there { h < length flat.now.harts }
+    requires ordered { IsOrdered flat.now }
+    ensures { IfOk result (λ met. IsToMeet flat.now h deed.now (option_map (λ v. v.items) met)) }
+{
+    match deed {
+        Deed::Load { operand } | Deed::Store { operand, .. } => unmet(flat, h, operand.va),
+        _ => Ok(None),
+    }
+}
+
 // A hart that runs and is in no try does what it is to do with the word at its pc.
 fn try_word(
     flat: &mut Flat,
@@ -216,7 +257,7 @@ fn try_word(
     arch: &Arch,
     word: u32,
 ) -> Result<(), StepFault>
-    requires room { vec_len journal.old + 3 < vec_capacity journal.old }
+    requires room { vec_len journal.old + 5 < vec_capacity journal.old }
     requires rests { IsResting flat.old }
     requires ready { OfHart flat.old h (λ hart. IsAt flat.old hart arch.now.pc word × (hart.arch ≡ arch.now)) }
     ensures ok { OnOk result (Continues flat.old journal.old.items flat.new journal.new.items (IsUnit h)) }
@@ -228,8 +269,9 @@ fn try_word(
     let Some(deed) = deed_of(arch, word) else {
         return Err(StepFault::Unbuilt { pc: arch.pc });
     };
+    let met = to_meet(flat, h, &deed)?;
     fetch(flat, journal, h, arch.pc, word);
-    carry_out(flat, journal, h, arch, word, deed);
+    carry_out(flat, journal, h, arch, word, deed, met);
     Ok(())
 }
 

@@ -602,7 +602,7 @@ fn longest_scripts(rt: HostRuntime) -> Result<(), Fail> {
 }
 
 // The image of these words.
-fn image_of(alloc: Global, words: &[u32]) -> Result<Vec<u8>, Fail> {
+pub(crate) fn image_of(alloc: Global, words: &[u32]) -> Result<Vec<u8>, Fail> {
     let mut text = Vec::new(alloc);
     let mut size: u16 = 0;
     for word in words {
@@ -616,8 +616,6 @@ fn image_of(alloc: Global, words: &[u32]) -> Result<Vec<u8>, Fail> {
 fn unbuilt_steps(rt: HostRuntime) -> Result<(), Fail> {
     let alloc = rt.alloc();
     for (word, name) in [
-        (0x0001_2083, "lw x1, 0(x2)"),
-        (0xFE11_3C23, "sd x1, -8(x2)"),
         (0x0220_81B3, "mul x3, x1, x2"),
         (0x0220_C1BB, "divw x3, x1, x2"),
         (0x0011_20AF, "amoadd.w x1, x1, (x2)"),
@@ -642,7 +640,7 @@ fn unbuilt_steps(rt: HostRuntime) -> Result<(), Fail> {
 }
 
 // What is printed of so many units of a program, from its first entry to the registers at its end.
-fn journal_of(alloc: Global, words: &[u32], script: &str) -> Result<Vec<u8>, Fail> {
+pub(crate) fn journal_of(alloc: Global, words: &[u32], script: &str) -> Result<Vec<u8>, Fail> {
     let (status, got) = run(alloc, &image_of(alloc, words)?, script)?;
     if status != Status::Done {
         return Ok(Vec::new(alloc));

@@ -1,4 +1,4 @@
-use Rattle.std.proofs.Common.{rules, arith, ◌*◌, ◌+◌, ◌≤◌, ◌≡◌, ◌-◌, length}
+use Rattle.std.proofs.Common.{rules, arith, ◌*◌, length}
 use Rattle.std.proofs.lemmas.Grind.{common_steps}
 use Rattle.elf_load.proofs.FillingLemmas.{part_copied, lies_in_file}
 use Rattle.elf_load.proofs.filling.copy_part.Goals as goal

@@ -1,4 +1,4 @@
-use Rattle.std.proofs.Common.{rules, arith, ◌*◌, ◌+◌, ◌≡◌, length, take_all, ◌∙◌, ap}
+use Rattle.std.proofs.Common.{rules, ◌*◌, ◌+◌, length, take_all, ◌∙◌, ap}
 use Rattle.elf_load.specs.Loaded.{byte_at}
 use Rattle.elf_load.proofs.PlacingLemmas.{no_segment}
 use Rattle.elf_load.proofs.FillingLemmas.{byte_step, bytes_told}

@@ -1,4 +1,4 @@
-use Rattle.std.proofs.Common.{◌≡◌, ℕ, ◌<◌, ◌+◌, ◌*◌, length, take, get_or}
+use Rattle.std.proofs.Common.{◌≡◌, ℕ, ◌<◌, ◌+◌, ◌*◌, take, get_or}
 use Rattle.elf_load.specs.Loaded.{byte_at}
 use Rattle.elf_load.proofs.filling.fill.Given as goal
 

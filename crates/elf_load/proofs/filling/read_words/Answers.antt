@@ -1,4 +1,4 @@
-use Rattle.std.proofs.Common.{rules, arith, ◌∙◌, ◌≡◌, length}
+use Rattle.std.proofs.Common.{rules}
 use Rattle.elf_load.proofs.FillingLemmas.{words_told}
 use Rattle.elf_load.proofs.filling.read_words.Goals as goal
 

@@ -1,4 +1,4 @@
-use Rattle.std.proofs.Common.{rules, arith, ◌∙◌, ◌≡◌, length}
+use Rattle.std.proofs.Common.{◌∙◌}
 use Rattle.elf_load.proofs.PageLemmas.{rising-filter, placeable-filter, is_text_page, no_data_page, is_data_page, no_text_page}
 use Rattle.elf_load.proofs.pages.add_page.Goals as goal
 

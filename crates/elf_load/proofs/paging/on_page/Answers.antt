@@ -1,4 +1,3 @@
-use Rattle.std.proofs.Common.{rules, arith}
 use Rattle.elf_load.proofs.OnPageLemmas.{point_order, between_met}
 use Rattle.elf_load.proofs.paging.on_page.Goals as goal
 

@@ -1,4 +1,4 @@
-use Rattle.std.proofs.Common.{rules, ◌≡◌}
+use Rattle.std.proofs.Common.{rules}
 use Rattle.elf_load.proofs.PlacingLemmas.{first_told}
 use Rattle.elf_load.proofs.placing.first_from.Goals as goal
 

@@ -1,4 +1,4 @@
-use Rattle.std.proofs.Common.{rules, ◌≡◌}
+use Rattle.std.proofs.Common.{rules}
 use Rattle.elf_load.proofs.PlacingLemmas.{last_told}
 use Rattle.elf_load.proofs.placing.last_below.Goals as goal
 

@@ -1,5 +1,3 @@
-use Rattle.std.proofs.Common.{◌≡◌, sym, subst, ap, ◌∙◌}
-use Rattle.elf_load.specs.Placing.{IsKeyed}
 use Rattle.elf_load.proofs.PlacingLemmas.{keyed-insert, same-insert}
 use Rattle.elf_load.proofs.placing.place.Goals as goal
 

@@ -1,8 +1,6 @@
-use Rattle.std.proofs.Common.{◌≡◌, arith, rules, ◌∙◌, ap, sym, subst}
+use Rattle.std.proofs.Common.{◌≡◌, arith, rules, ◌∙◌}
 use Rattle.std.proofs.lemmas.Grind.{common_steps}
 use Rattle.std.specs.BTreeMap.{values}
-use Rattle.elf_load.specs.Segments.{loads_of}
-use Rattle.elf_load.specs.Placing.{IsRising, HasSame}
 use Rattle.elf_load.proofs.PlacingLemmas.{no_segment, same_with, same_without, all_placed}
 use Rattle.elf_load.proofs.placing.placed.Goals as goal
 use Rattle.elf_load.proofs.placing.placed.Goals.{then-is_load+else-not-fits+in_ok-place, else-is_load}

@@ -4,7 +4,7 @@ use Rattle.wf_top.proofs.SizeLemmas.{start_rests, one_hart, plain_there}
 use Rattle.wf_top.proofs.running.report_of.Goals as goal
 
 pub follow-requires-clause-rests : goal.follow-requires-clause-rests
-follow-requires-clause-rests c = rw c.in-Ok.ensures.ok (start_rests c.args.image.now)
+follow-requires-clause-rests c = start_rests c.args.image.now c.in-Ok.flat c.in-Ok.ensures.ok c.in-Ok.ensures.ordered
 
 pub follow-requires-clause-there : goal.follow-requires-clause-there
 follow-requires-clause-there c =

@@ -1,12 +1,12 @@
 use Rattle.std.proofs.Common.{List, subst, sym}
 use Rattle.wf_flat.specs.declared.event.Entry.{Entry}
 use Rattle.wf_top.specs.Stepping.{Begins}
-use Rattle.wf_top.proofs.StepLemmas.{begins, rest_tries}
+use Rattle.wf_top.proofs.StepLemmas.{begins, rest_acts}
 use Rattle.wf_top.proofs.CarryLemmas.{fault_ready, word_ready}
 use Rattle.wf_top.proofs.stepping.step.Goals as goal
 
-pub trap-requires-clause-tries : goal.trap-requires-clause-tries
-trap-requires-clause-tries c = rest_tries c.args.flat.now c.args.h c.requires.rests
+pub trap-requires-clause-acts : goal.trap-requires-clause-acts
+trap-requires-clause-acts c = rest_acts c.args.flat.now c.args.h c.requires.rests
 
 pub trap-requires-clause-ready : goal.trap-requires-clause-ready
 trap-requires-clause-ready c = fault_ready c.args.flat.now c.args.h c.in-Fault.pc c.requires.rests c.in-Fault.ensures

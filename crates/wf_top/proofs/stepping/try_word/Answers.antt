@@ -1,6 +1,6 @@
 use Rattle.std.proofs.Common.{◌≡◌, subst, rules}
 use Rattle.wf_flat.specs.Unbuilt.{IsUnbuilt}
-use Rattle.wf_top.proofs.StepLemmas.{begins, rest_tries}
+use Rattle.wf_top.proofs.StepLemmas.{begins, rest_acts}
 use Rattle.wf_top.proofs.CarryLemmas.{meets_unbuilt_word}
 use Rattle.wf_top.proofs.stepping.try_word.Goals as goal
 
@@ -9,8 +9,8 @@ returns-in_default-clause-unbuilt c = λ pc e.
     let same : c.args.arch.now.pc ≡ pc = search rules in
     subst (IsUnbuilt c.args.flat.now c.args.h) same (meets_unbuilt_word c.args.flat.now c.args.h c.args.word c.args.arch.now c.requires.ready (λ hart a. c.deed_of.ensures.none hart a c.in_default.is))
 
-pub fetch-requires-clause-tries : goal.fetch-requires-clause-tries
-fetch-requires-clause-tries c = rest_tries c.args.flat.now c.args.h c.requires.rests
+pub fetch-requires-clause-acts : goal.fetch-requires-clause-acts
+fetch-requires-clause-acts c = rest_acts c.args.flat.now c.args.h c.requires.rests
 
 pub returns-clause-ok : goal.returns-clause-ok
 returns-clause-ok c =
