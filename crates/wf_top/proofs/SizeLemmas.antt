@@ -7,6 +7,7 @@ use Rattle.wf_top.specs.declared.script.Command.{Command}
 use Rattle.wf_top.specs.declared.script.Command.TheVariants.{Step}
 use Rattle.wf_top.specs.PlainScript.{IsPlain}
 use Rattle.wf_top.specs.Stepping.{IsResting, IsThere}
+use Rattle.wf_outside.specs.Pages.{LimitsValue}
 use Rattle.wf_outside.specs.Images.{ImageValue}
 use Rattle.wf_flat.specs.State.{FlatState}
 use Rattle.wf_flat.specs.Ordered.{IsOrdered}
@@ -21,16 +22,16 @@ unfolding plain_text places_with stacks_of numbered_from
 frames_of_plain bytes = refl
 
 -- the machine is at rest at the start
-boot_rests : (image : ImageValue) → IsOrdered (boot_of image 1 sizes) → IsResting (boot_of image 1 sizes)
+boot_rests : (image : ImageValue) (limits : LimitsValue) → IsOrdered (boot_of image 1 limits) → IsResting (boot_of image 1 limits)
 unfolding boot_harts
-boot_rests image ordered = record { no_one = refl; no_try = (refl, tt); single = record { alone = refl; ordered = ordered }; free = boot_fresh image 1 }
+boot_rests image limits ordered = record { no_one = refl; no_try = (refl, tt); single = record { alone = refl; ordered = ordered }; free = boot_fresh image 1 }
 
-pub start_rests : (image : ImageValue) (flat : FlatState) → flat ≡ boot_of image 1 sizes → IsOrdered flat → IsResting flat
-start_rests image flat e ordered = subst IsResting (sym e) (boot_rests image (subst IsOrdered e ordered))
+pub start_rests : (image : ImageValue) (limits : LimitsValue) (flat : FlatState) → flat ≡ boot_of image 1 limits → IsOrdered flat → IsResting flat
+start_rests image limits flat e ordered = subst IsResting (sym e) (boot_rests image limits (subst IsOrdered e ordered))
 
-pub one_hart : (image : ImageValue) → length (boot_of image 1 sizes).harts ≡ 1
+pub one_hart : (image : ImageValue) (limits : LimitsValue) → length (boot_of image 1 limits).harts ≡ 1
 unfolding boot_harts
-one_hart image = refl
+one_hart image limits = refl
 
 -- a plain script has hart 0 alone
 pub plain_there : (script : List Command) → AllByRecursion IsPlain script → AllByRecursion (IsThere 1) script

@@ -1,8 +1,16 @@
 //! Loads and stores, whose bytes were worked by hand from the tables of the manual.
+ghost use Rattle.std.specs.Prelude.{◌≡◌, ◌<◌, ◌≤◌, IfOk, length};
+ghost use Rattle.wf_top.specs.Stepping.{IsResting};
 
+use crate::plain_image::read_image;
+use crate::report::report;
+use crate::script::Command;
+use crate::stepping::follow;
 use crate::tests::{image_of, journal_of};
 use std::alloc::Global;
 use std::test::Fail;
+use wf_flat::{Flat, boot};
+use wf_outside::Limits;
 
 // What is stored, as the two words that follow a program in its text: the bytes f8 e9 da cb 7c ad 6e 8f,
 // lowest first. The top bit of its low 1, 2, 4 and 8 bytes is 1.
@@ -640,5 +648,147 @@ h0 end 10020
 ";
     let got = journal_of(alloc, &words, "step h0 8\n")?;
     assert_eq!(rt; str::from_utf8(&got)?, want);
+    Ok(())
+}
+
+// The state of one hart at the start of a program, where counts of writes go so far.
+fn counting(alloc: Global, words: &[u32], last_writes: u64) -> Result<Flat, Fail>
+    requires first { 1 ≤ last_writes }
+    requires low { last_writes < 1000 }
+    ensures rests { IfOk result (λ flat. IsResting flat) }
+    ensures one { IfOk result (λ flat. length flat.harts ≡ 1) }
+{
+    let Some(image) = read_image(alloc, &image_of(alloc, words)?)? else {
+        return Err(Fail::new("no image"));
+    };
+    let limits = Limits {
+        frames: 1024,
+        last_writes,
+        last_birth: 1000,
+    };
+    Ok(boot(alloc, &image, 1, limits)?)
+}
+
+// The report of so many units of it.
+fn report_of(alloc: Global, flat: &mut Flat, n: u64) -> Result<Vec<u8>, Fail>
+    requires rests { IsResting flat.old }
+    requires one { length flat.old.harts ≡ 1 }
+{
+    let mut journal = Vec::new(alloc);
+    follow(flat, &mut journal, &[Command::Step { hart: 0, n }])?;
+    Ok(report(alloc, &journal, flat)?)
+}
+
+// Nine words and their report where counts of writes go so far, after so many of them:
+// addi x5, x0, -1; ld x4, -8(x2); sd x5, -8(x2); ld x4, -8(x2); sb x0, -8(x2); lbu x4, -7(x2);
+// lui x3, 0xfffff; add x3, x3, x2; ld x4, -8(x3)
+fn counted(alloc: Global, last_writes: u64, n: u64) -> Result<Vec<u8>, Fail>
+    requires first { 1 ≤ last_writes }
+    requires low { last_writes < 1000 }
+{
+    let words = [
+        0xFFF0_0293,
+        0xFF81_3203,
+        0xFE51_3C23,
+        0xFF81_3203,
+        0xFE01_0C23,
+        0xFF91_4203,
+        0xFFFF_F1B7,
+        0x0021_81B3,
+        0xFF81_B203,
+    ];
+    let mut flat = counting(alloc, &words, last_writes)?;
+    report_of(alloc, &mut flat, n)
+}
+
+#[test]
+fn last_count_one(rt: HostRuntime) -> Result<(), Fail> {
+    let got = counted(rt.alloc(), 1, 9)?;
+    let want = "wfpatch run 1
+harts 1
+frames 1024
+h0 fetch 10000 fff00293
+h0 end 10004
+h0 fetch 10004 ff813203
+h0 enter
+h0 sync 0 3e0000f
+h0 look 3e0000fff8 8 0
+h0 end 10008
+h0 fetch 10008 fe513c23
+h0 take 3e0000f
+h0 put 3e0000fff8 8 ffffffffffffffff
+h0 end 1000c
+h0 fetch 1000c ff813203
+h0 take 3e0000f
+h0 look 3e0000fff8 8 ffffffffffffffff
+h0 end 10010
+h0 fetch 10010 fe010c23
+h0 take 3e0000f
+h0 put 3e0000fff8 1 0
+h0 end 10014
+h0 fetch 10014 ff914203
+h0 take 3e0000f
+h0 look 3e0000fff9 1 ff
+h0 end 10018
+h0 fetch 10018 fffff1b7
+h0 end 1001c
+h0 fetch 1001c 002181b3
+h0 end 10020
+h0 fetch 10020 ff81b203
+h0 enter
+h0 sync 0 3e0000e
+h0 look 3e0000eff8 8 0
+h0 end 10024
+= hart 0 gen 0 pc 10024 running
+= regs 0 0 3e00010000 3e0000f000 0 ffffffffffffffff 0 0 0 0 0 0 0 0 0 0 0 0 0 0 0 0 0 0 0 0 0 0 0 0 0 0
+= gen 0 parent - live patches 0
+= page 3e0000c rw here writes 0
+= page 3e0000d rw here writes 0
+= page 3e0000e rw here writes 0
+= page 3e0000f rw here writes 1
+= word 3e0000fff8 ffffffffffffff00
+";
+    assert!(rt; got.starts_with(want.as_bytes()), "{want}");
+    Ok(())
+}
+
+#[test]
+fn last_count_two(rt: HostRuntime) -> Result<(), Fail> {
+    let got = counted(rt.alloc(), 2, 6)?;
+    let want = "wfpatch run 1
+harts 1
+frames 1024
+h0 fetch 10000 fff00293
+h0 end 10004
+h0 fetch 10004 ff813203
+h0 enter
+h0 sync 0 3e0000f
+h0 look 3e0000fff8 8 0
+h0 end 10008
+h0 fetch 10008 fe513c23
+h0 take 3e0000f
+h0 put 3e0000fff8 8 ffffffffffffffff
+h0 end 1000c
+h0 fetch 1000c ff813203
+h0 look 3e0000fff8 8 ffffffffffffffff
+h0 end 10010
+h0 fetch 10010 fe010c23
+h0 take 3e0000f
+h0 put 3e0000fff8 1 0
+h0 end 10014
+h0 fetch 10014 ff914203
+h0 take 3e0000f
+h0 look 3e0000fff9 1 ff
+h0 end 10018
+= hart 0 gen 0 pc 10018 running
+= regs 0 0 3e00010000 0 ff ffffffffffffffff 0 0 0 0 0 0 0 0 0 0 0 0 0 0 0 0 0 0 0 0 0 0 0 0 0 0
+= gen 0 parent - live patches 0
+= page 3e0000c rw here writes 0
+= page 3e0000d rw here writes 0
+= page 3e0000e rw here writes 0
+= page 3e0000f rw here writes 2
+= word 3e0000fff8 ffffffffffffff00
+";
+    assert!(rt; got.starts_with(want.as_bytes()), "{want}");
     Ok(())
 }
