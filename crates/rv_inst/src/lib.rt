@@ -6,6 +6,10 @@ mod decoding;
 mod inst;
 mod laws;
 #[cfg(test)]
+mod operation_tests;
+#[cfg(test)]
+mod reserved_word_tests;
+#[cfg(test)]
 mod tests;
 mod want;
 
