@@ -5,15 +5,6 @@ pub mod OrderedLemmas
 pub mod TextLemmas
 pub mod FoundLemmas
 pub mod WordLemmas
-pub mod DeterminedLemmas
 pub mod HartLemmas
 pub mod ChangeLemmas
-pub mod UnbuiltLemmas
 pub mod TestLemmas
-pub mod StayLemmas
-pub mod FetchLemmas
-pub mod PageLemmas
-pub mod HolderLemmas
-pub mod ByteLemmas
-pub mod FitLemmas
-pub mod LatestLemmas

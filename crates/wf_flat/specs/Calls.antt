@@ -34,10 +34,9 @@ todo_of_call number first pc =
     else if nat_lt 8 number then Some (Exactly (Refused (Number number)) ∷ Exactly (End (next_pc pc)) ∷ [])
     else None
 
--- What is done about an access that is barred: a trap where its page is text, or no page of data that is Here,
--- or lacks the right; else its generation meets the page; where it
--- has met it already, the page has moved, and the access is tried again. A load page fault has cause 13, a store page
--- fault 15 (RISC-V privileged ISA, "Machine Cause Register").
+-- What is done about an access that is barred: a trap where its page is text, or no page of data that is Here, or lacks
+-- the right; else its generation meets the page; where it has met it already, the page has moved, and the access is
+-- tried again. A load page fault has cause 13, a store page fault 15 (RISC-V privileged ISA, "Machine Cause Register").
 abbrev pub access_trap : Access → List Todo
 access_trap access = Exactly (Trap (if access.write then 15 else 13) access.va) ∷ []
 

@@ -3,7 +3,6 @@ pub mod State
 pub mod Counts
 pub mod Boot
 pub mod Memory
-pub mod Built
 pub mod Accesses
 pub mod Ordered
 pub mod Refusals
@@ -12,4 +11,3 @@ pub mod Calls
 pub mod Legal
 pub mod Follows
 pub mod Unbuilt
-pub mod Laws

@@ -49,6 +49,12 @@ has_met met generation page = is_some (found_by met_key met (met_key (generation
 abbrev pub with_met : List (ℕ × ℕ) → ℕ → ℕ → List (ℕ × ℕ)
 with_met met generation page = inserted_by met_key (generation, page) met
 
+-- what was met, with what one generation has met now
+pub record HasOneMore (old new : List (ℕ × ℕ)) : Type 0 where
+  pub generation : ℕ
+  pub page : ℕ
+  pub is : new ≡ with_met old generation page
+
 -- a place of so many bytes, 1, 2, 4 or 8, which is a multiple of their count
 pub record IsPlace (at width : ℕ) : Type 0 where
   pub sized : (width ≡ 1) ⊎ ((width ≡ 2) ⊎ ((width ≡ 4) ⊎ (width ≡ 8)))

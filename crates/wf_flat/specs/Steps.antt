@@ -1,6 +1,8 @@
 -- What a hart may do outside the kernel, and what each entry changes.
 use Rattle.std.specs.Prelude.{ℕ, List, [], Bool, true, false, Option, Some, None, ◌≡◌, ◌≢◌, ◌==◌, ◌+◌, ◌*◌, ◌%◌, ◌^◌, ◌&&◌, ◌||◌, not, if◌then◌else◌, is_some, nat_lt, IsSomeAnd, slice_get, slice_index, option_and_then, unwrap_or}
 use Rattle.wf_outside.specs.Pages.{PageValue}
+use Rattle.std.specs.Option.{option_map}
+use Rattle.rv_alu.specs.Arithmetic.{amo_of}
 use Rattle.rv_inst.specs.declared.inst.Inst.{Inst}
 use Rattle.rv_inst.specs.declared.inst.Inst.TheVariants.{Ecall}
 use Rattle.rv_inst.specs.declared.want.Want.{Want}
@@ -12,7 +14,7 @@ use Rattle.rv_inst.specs.Meanings.{want_of, meaning_of, called}
 use Rattle.wf_flat.specs.declared.event.Actor.{Actor}
 use Rattle.wf_flat.specs.declared.event.Actor.TheVariants.{Hart, Kernel}
 use Rattle.wf_flat.specs.declared.event.Event.{Event}
-use Rattle.wf_flat.specs.declared.event.Event.TheVariants.{Fetch, Look, Take, Put, End, Enter, Sync, Again, Exit, Trap, Out, Refused, Idle}
+use Rattle.wf_flat.specs.declared.event.Event.TheVariants.{Fetch, Look, Take, Put, Swap, Miss, End, Enter, Sync, Again, Exit, Trap, Out, Refused, Idle}
 use Rattle.wf_flat.specs.declared.state.Life.TheVariants.{Running, Exited, Trapped}
 use Rattle.wf_flat.specs.State.{FlatState, HartState, PageState}
 use Rattle.wf_flat.specs.declared.state.Reservation.{Reservation}
@@ -20,7 +22,6 @@ use Rattle.wf_flat.specs.Lists.{changed_at, changed_by, others_changed, with_num
 use Rattle.wf_flat.specs.Memory.{word_at, page_of, data_in, number_in, words_with, with_met}
 pub use Rattle.wf_flat.specs.Accesses.{text_in, text_of}
 use Rattle.wf_flat.specs.Accesses.{Access, access_of, text_page, data_page, is_reached, holder_is, is_free, holds, has_reserved, stands, is_barred}
-use Rattle.wf_flat.specs.Built.{is_built}
 use Rattle.wf_flat.specs.Refusals.{refused_answer}
 
 -- the hart is there, and P holds of it
@@ -31,13 +32,9 @@ OfHart s h P = IsSomeAnd (slice_get s.harts h) P
 abbrev pub inst_in : HartState → Option Inst
 inst_in hart = option_and_then inst_of hart.fetched
 
--- what an instruction wants that the machine runs
-abbrev pub built_want : Inst → ArchState → Option Want
-built_want inst arch = if is_built inst then Some (want_of inst arch) else None
-
 -- what the instruction of its try wants
 abbrev pub want_in : HartState → Option Want
-want_in hart = option_and_then (λ inst. built_want inst hart.arch) (inst_in hart)
+want_in hart = option_map (λ inst. want_of inst hart.arch) (inst_in hart)
 
 -- the access of its try
 abbrev pub access_in : HartState → Option Access
@@ -72,7 +69,7 @@ ask_of_want s h hart want = ask_of_access s h hart (access_of want)
 -- "Machine Cause Register").
 abbrev pub ask_of_word : FlatState → ℕ → HartState → ℕ → Option Inst → Option Ask
 ask_of_word s h hart word None = Some (Stopped 2 word)
-ask_of_word s h hart word (Some inst) = ask_of_want s h hart (built_want inst hart.arch)
+ask_of_word s h hart word (Some inst) = ask_of_want s h hart (Some (want_of inst hart.arch))
 
 -- Of a pc in a page that is no text: instruction page fault, cause 12, with the pc.
 abbrev pub ask_of_fetch : ℕ → Option ℕ → Option Ask
@@ -149,11 +146,38 @@ MayPut s h hart va width value =
     let access : Access = record { va = va; width = width; write = true } in
     (access_in hart ≡ Some access) × (holds s h access ≡ true) × (hart.looked ≡ None) × (hart.put ≡ false) × IsSomeAnd (put_of (want_in hart)) (λ whole. value ≡ whole % 2 ^ (8 * width))
 
--- a write is made, or missed
+-- what an atomic memory operation makes of what it reads (RISC-V unprivileged ISA, "Atomic Memory Operations")
+abbrev pub swap_of : Option Want → ℕ → Option ℕ
+swap_of (Some (want.Swap va width op value)) got = Some (amo_of op (width == 8) got value)
+swap_of want got = None
+
+-- it holds the page, its write is not made, these are the bytes there, and this is made of them
+abbrev pub MaySwap : FlatState → ℕ → HartState → ℕ → ℕ → ℕ → ℕ → Type 0
+MaySwap s h hart va width old new =
+    let access : Access = record { va = va; width = width; write = true } in
+    (access_in hart ≡ Some access) × (holds s h access ≡ true) × (hart.looked ≡ None) × (hart.put ≡ false)
+    × IsSomeAnd (data_page s access) (λ page. old ≡ number_in page.words (va % 4096) width) × (swap_of (want_in hart) old ≡ Some new)
+
+-- the want is that of a store-conditional
 abbrev pub is_conditional : Option Want → Bool
 is_conditional (Some (want.PutIf va width value)) = true
 is_conditional want = false
 
+-- Its store-conditional misses: it has no reservation for its address and width; or its page is no own text and
+-- a page of data in reach with the right, for which its reservation does not stand.
+abbrev pub misses_page : FlatState → HartState → Access → Option PageState → Bool
+misses_page s hart access None = false
+misses_page s hart access (Some page) = is_reached s hart access page && not (stands hart.reservation access page)
+
+abbrev pub misses : FlatState → HartState → Access → Bool
+misses s hart access = is_lost (want_in hart) hart.reservation || not (is_some (text_page s hart access)) && misses_page s hart access (data_page s access)
+
+abbrev pub MayMiss : FlatState → ℕ → HartState → Option Access → ℕ → Type 0
+MayMiss s h hart None va = ⊥
+MayMiss s h hart (Some access) va =
+    (va ≡ access.va) × (is_conditional (want_in hart) ≡ true) × (hart.looked ≡ None) × (holds s h access ≡ false) × (misses s hart access ≡ true)
+
+-- a write is made, or missed
 abbrev pub has_written : HartState → Access → Bool
 has_written hart access = not access.write || hart.put || is_conditional (want_in hart)
 
@@ -180,6 +204,8 @@ MayAct s (Hart h) (End pc) = OfHart s h (λ hart. (hart.life ≡ Running) × May
 MayAct s (Hart h) (Look va width value) = OfHart s h (λ hart. (hart.life ≡ Running) × MayLook s h hart va width value)
 MayAct s (Hart h) (Take page) = OfHart s h (λ hart. (hart.life ≡ Running) × MayTake s hart (access_in hart) page)
 MayAct s (Hart h) (Put va width value) = OfHart s h (λ hart. (hart.life ≡ Running) × MayPut s h hart va width value)
+MayAct s (Hart h) (Swap va width old new) = OfHart s h (λ hart. (hart.life ≡ Running) × MaySwap s h hart va width old new)
+MayAct s (Hart h) (Miss va) = OfHart s h (λ hart. (hart.life ≡ Running) × MayMiss s h hart (access_in hart) va)
 MayAct s (Hart h) Enter = OfHart s h (λ hart. (hart.life ≡ Running) × MayEnter s h hart)
 MayAct s (Hart h) Idle = OfHart s h (λ hart. hart.life ≢ Running)
 MayAct s actor event = ⊥
@@ -257,6 +283,14 @@ looked_with s va width value hart =
 abbrev pub written_by : HartState → HartState
 written_by hart = record (answered 0 hart) { put = true; reservation = if is_conditional (want_in hart) then None else hart.reservation }
 
+-- an atomic memory operation is made: its answer is what it read
+abbrev pub swapped_by : ℕ → HartState → HartState
+swapped_by old hart = record (answered old hart) { put = true }
+
+-- a store-conditional misses: its answer is 1, and no reservation is left
+abbrev pub missed : HartState → HartState
+missed hart = record (answered 1 hart) { reservation = None }
+
 -- a page is taken, is written, and is given back: its writes rise by one, as far as they go, where its hart wrote
 abbrev pub taken_by : ℕ → PageState → PageState
 taken_by h page = record page { holder = Some h }
@@ -284,18 +318,21 @@ give_back s h = give_back_by s h (slice_get s.harts h)
 abbrev pub noted_in : ℕ → ℕ → HartState → HartState
 noted_in generation page hart = if hart.generation == generation then noted page hart else hart
 
--- What an event of an actor changes; all else stays. A byte that is put is answered by 0.
+-- What an event of an actor changes; all else stays.
 abbrev pub flat_after : FlatState → Actor → Event → FlatState
 flat_after s (Hart h) (Fetch pc word) = change_hart s h (fetched_with word)
 flat_after s (Hart h) (Look va width value) = change_hart s h (looked_with s va width value)
 flat_after s (Hart h) (Take page) = note_page (change_page s page (taken_by h)) h page
 flat_after s (Hart h) (Put va width value) = change_hart (change_page s (page_of va) (put_with (va % 4096) width value)) h written_by
+flat_after s (Hart h) (Swap va width old new) = change_hart (change_page s (page_of va) (put_with (va % 4096) width new)) h (swapped_by old)
+flat_after s (Hart h) (Miss va) = change_hart s h missed
 flat_after s (Hart h) (End pc) = leave_hart (give_back s h) h ended
 flat_after s actor Enter = record s { inside = Some actor }
 flat_after s (Hart h) (Sync generation page) = record s { inside = without s.inside (Hart h); met = with_met s.met generation page; harts = others_changed s.harts h (noted_in generation page) }
 flat_after s (Hart h) (Exit code) = leave_hart s h (exited_with code)
 flat_after s (Hart h) (Trap cause value) = leave_hart s h (trapped_with cause value)
 flat_after s (Hart h) (Again page) = leave_hart s h tried
+-- a byte that is put is answered by 0
 flat_after s (Hart h) (Out byte) = change_hart s h (answered 0)
 flat_after s (Hart h) (Refused reason) = change_hart s h (answered (refused_answer reason))
 flat_after s actor event = s

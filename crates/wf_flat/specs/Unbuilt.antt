@@ -1,19 +1,21 @@
 -- What is not built yet, and is met where a hart is to begin a try.
-use Rattle.std.specs.Prelude.{ℕ, false, Option, Some, None, ◌≡◌, slice_index}
+use Rattle.std.specs.Prelude.{ℕ, Bool, false, Option, Some, None, ◌≡◌, ◌==◌, ◌||◌, nat_lt, slice_index}
 use Rattle.rv_inst.specs.declared.inst.Inst.{Inst}
 use Rattle.rv_inst.specs.declared.inst.Inst.TheVariants.{Ecall}
 use Rattle.rv_inst.specs.Decoding.{inst_of}
 use Rattle.wf_flat.specs.declared.state.Life.TheVariants.{Running}
 use Rattle.wf_flat.specs.State.{FlatState, HartState}
 use Rattle.wf_flat.specs.Memory.{word_at}
-use Rattle.wf_flat.specs.Built.{is_built, is_built_call}
 use Rattle.wf_flat.specs.Steps.{OfHart, text_of}
 
--- the instruction is one of M or A; or it is a call that is not built
+-- the call of this number is the exit, the byte, the own generation, or none that there is
+abbrev pub is_built_call : ℕ → Bool
+is_built_call number = (number == 0) || (number == 1) || (number == 4) || nat_lt 8 number
+
+-- the instruction is a call that is not built, whose number is in a7, which is x17
 abbrev pub IsUnbuiltInst : HartState → Option Inst → Type 0
-IsUnbuiltInst hart None = ⊥
 IsUnbuiltInst hart (Some Ecall) = is_built_call (slice_index hart.arch.x 17) ≡ false
-IsUnbuiltInst hart (Some inst) = is_built inst ≡ false
+IsUnbuiltInst hart inst = ⊥
 
 -- the word at the pc is not built; where there is none, or none that is an instruction, the hart traps
 abbrev pub IsUnbuiltWord : HartState → Option ℕ → Type 0

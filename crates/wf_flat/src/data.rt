@@ -1,4 +1,4 @@
-//! Looking for pages of data, and for the pages that generations have met.
+//! Pages of data: finding, taking, writing and giving them back; and the pages that generations have met.
 ghost use Rattle.std.specs.Prelude.{◌≡◌, ◌<◌, ◌≤◌, ◌⊎◌, ◌*◌, ◌/◌, ◌%◌, ◌^◌, true, false, IfOk, OnOk, MatchOption, MatchResult, length, map, slice_get, option_copied};
 ghost use Rattle.std.specs.List.{insert};
 ghost use Rattle.wf_flat.specs.Lists.{IsRising, changed_by};
@@ -84,8 +84,8 @@ fn key_of(generation: u32, page: u32) -> u64
     (generation as u64) * (1 << 26) + page as u64
 }
 
-/// The number of `width` bytes of a page, 1, 2, 4 or 8, from a place on, lowest first.
-pub fn number_at(words: &[u64], at: u64, width: u8) -> u64
+// The number of `width` bytes of a page, 1, 2, 4 or 8, from a place on, lowest first.
+pub(crate) fn number_at(words: &[u64], at: u64, width: u8) -> u64
     requires there { at / 8 < length words.now }
     requires width { (width ≡ 1) ⊎ ((width ≡ 2) ⊎ ((width ≡ 4) ⊎ (width ≡ 8))) }
     ensures { result ≡ number_in words.now at width }

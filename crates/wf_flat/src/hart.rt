@@ -1,15 +1,15 @@
-//! What an entry changes of its hart.
-ghost use Rattle.std.specs.Prelude.{◌≡◌, ◌<◌, ◌%◌, ℕ, false, length, map, slice_get};
+//! What each entry of a hart changes.
+ghost use Rattle.std.specs.Prelude.{◌≡◌, ◌<◌, ◌%◌, ℕ, false, true, length, map, slice_get};
 ghost use Rattle.std.specs.Option.{option_map};
 ghost use Rattle.wf_flat.specs.declared.event.Event.TheVariants as events;
 ghost use Rattle.wf_flat.specs.Refusals.{refused_answer};
-ghost use Rattle.wf_flat.specs.Steps.{OfHart, flat_after, fetched_with, ended, exited_with, trapped_with, answered, without, arch_after, taken_by, put_with, written_by, give_back, change_hart, leave_hart, reserves, is_conditional, want_in, access_in};
+ghost use Rattle.wf_flat.specs.Steps.{OfHart, flat_after, fetched_with, ended, exited_with, trapped_with, answered, without, arch_after, taken_by, put_with, written_by, give_back, change_hart, leave_hart, reserves, is_conditional, want_in, access_in, looked_with, reservation_of, swapped_by, missed};
 ghost use Rattle.wf_flat.specs.Accesses.{held_by};
 ghost use Rattle.wf_flat.specs.Lists.{IsRising};
-ghost use Rattle.wf_flat.specs.Memory.{IsPlace, page_of, data_in, met_key, with_met};
+ghost use Rattle.wf_flat.specs.Memory.{HasOneMore, IsPlace, page_of, data_in, met_key, with_met};
 ghost use Rattle.wf_flat.specs.Ordered.{IsOrdered, page_numbers};
 
-use crate::{Actor, Flat, FlatHart, Life};
+use crate::{Actor, Flat, FlatHart, Life, Reservation};
 use rv_inst::Arch;
 use wf_outside::Refusal;
 
@@ -58,6 +58,40 @@ impl FlatHart {
         self.put = true;
     }
 
+    // Its write is made, which is a store-conditional's.
+    fn write_if(&mut self)
+        requires { is_conditional (want_in self.old) ≡ true }
+        ensures { self.new ≡ written_by self.old }
+    {
+        self.looked = Some(0);
+        self.put = true;
+        self.reservation = None;
+    }
+
+    // Its atomic memory operation is made, which read this.
+    fn swap(&mut self, got: u64)
+        ensures { self.new ≡ swapped_by got self.old }
+    {
+        self.looked = Some(got);
+        self.put = true;
+    }
+
+    // Its store-conditional misses.
+    fn miss(&mut self)
+        ensures { self.new ≡ missed self.old }
+    {
+        self.looked = Some(1);
+        self.reservation = None;
+    }
+
+    // Its load-reserved has this answer, and leaves this.
+    fn reserve(&mut self, answer: u64, reservation: Option<Reservation>)
+        ensures { self.new ≡ record (answered answer self.old) { reservation = reservation } }
+    {
+        self.looked = Some(answer);
+        self.reservation = reservation;
+    }
+
     // Its call, or its access, has this answer.
     fn answer(&mut self, answer: u64)
         ensures { self.new ≡ answered answer self.old }
@@ -66,8 +100,8 @@ impl FlatHart {
     }
 }
 
-// The answer of a refused call, in a0: the number of the refusal, negated, modulo 2^64.
-fn number_of(reason: Refusal) -> u64
+/// The answer of a refused call, in a0: the number of the refusal, negated, modulo 2^64.
+pub fn answer_of(reason: Refusal) -> u64
     ensures { result ≡ refused_answer reason }
 {
     let number: u64 = match reason {
@@ -117,6 +151,37 @@ impl Flat {
         hart.answer(value);
     }
 
+    // What a load-reserved leaves.
+    fn reservation_at(&self, va: u64, width: u8) -> Option<Reservation>
+        requires { IsOrdered self.now }
+        ensures { result ≡ reservation_of self.now va width (data_in self.now.pages (page_of va)) }
+    {
+        let page = self.data_page(va / 4096)?;
+        if page.writes < self.limits.last_writes {
+            Some(Reservation {
+                va,
+                width,
+                birth: page.birth,
+                writes: page.writes,
+            })
+        } else {
+            None
+        }
+    }
+
+    /// The change of a Look by this hart, which is a load-reserved. It takes time in the logarithm of the
+    /// pages.
+    pub fn reserve(&mut self, h: u8, va: u64, width: u8, value: u64)
+        requires reserves { OfHart self.old h (λ hart. reserves (want_in hart) ≡ true) }
+        requires ordered { IsOrdered self.old }
+        ensures state { self.new ≡ flat_after self.old (Actor.Hart h) (events.Look va width value) }
+        ensures hart { slice_get self.new.harts h ≡ option_map (looked_with self.old va width value) (slice_get self.old.harts h) }
+    {
+        let reservation = self.reservation_at(va, width);
+        let hart = &mut self.harts[h as usize];
+        hart.reserve(value, reservation);
+    }
+
     /// The change of a Take by this hart, on a machine of one. It takes time in the logarithm of the pages.
     pub fn take(&mut self, h: u8, page: u32)
         requires alone { length self.old.harts ≡ 1 }
@@ -154,6 +219,66 @@ impl Flat {
     {
         self.put_page(va, width, value);
         self.write(h);
+    }
+
+    // The write of a hart is made, which is a store-conditional's.
+    fn write_if(&mut self, h: u8)
+        requires { OfHart self.old h (λ hart. is_conditional (want_in hart) ≡ true) }
+        ensures { self.new ≡ change_hart self.old h written_by }
+    {
+        let hart = &mut self.harts[h as usize];
+        hart.write_if();
+    }
+
+    /// The change of a Put by this hart, which is a store-conditional. It takes time in the logarithm of
+    /// the pages.
+    pub fn put_if(&mut self, h: u8, va: u64, width: u8, value: u64)
+        requires conditional { OfHart self.old h (λ hart. is_conditional (want_in hart) ≡ true) }
+        requires place { IsPlace va width }
+        requires ordered { IsOrdered self.old }
+        ensures state { self.new ≡ flat_after self.old (Actor.Hart h) (events.Put va width value) }
+        ensures hart { slice_get self.new.harts h ≡ option_map written_by (slice_get self.old.harts h) }
+        ensures page { data_in self.new.pages (page_of va) ≡ option_map (put_with (va % 4096) width value) (data_in self.old.pages (page_of va)) }
+        ensures ordered { IsOrdered self.new }
+        ensures numbers { page_numbers self.new.pages ≡ page_numbers self.old.pages }
+    {
+        self.put_page(va, width, value);
+        self.write_if(h);
+    }
+
+    // The atomic memory operation of a hart is made, which read this.
+    fn exchange(&mut self, h: u8, got: u64)
+        requires { h < length self.old.harts }
+        ensures { self.new ≡ change_hart self.old h (swapped_by got) }
+    {
+        let hart = &mut self.harts[h as usize];
+        hart.swap(got);
+    }
+
+    /// The change of a Swap by this hart, which read one value and writes another. It takes time in the
+    /// logarithm of the pages.
+    pub fn swap(&mut self, h: u8, va: u64, width: u8, got: u64, value: u64)
+        requires there { h < length self.old.harts }
+        requires place { IsPlace va width }
+        requires ordered { IsOrdered self.old }
+        ensures state { self.new ≡ flat_after self.old (Actor.Hart h) (events.Swap va width got value) }
+        ensures hart { slice_get self.new.harts h ≡ option_map (swapped_by got) (slice_get self.old.harts h) }
+        ensures page { data_in self.new.pages (page_of va) ≡ option_map (put_with (va % 4096) width value) (data_in self.old.pages (page_of va)) }
+        ensures ordered { IsOrdered self.new }
+        ensures numbers { page_numbers self.new.pages ≡ page_numbers self.old.pages }
+    {
+        self.put_page(va, width, value);
+        self.exchange(h, got);
+    }
+
+    /// The change of a Miss of this hart.
+    pub fn miss(&mut self, h: u8, va: u64)
+        requires { h < length self.old.harts }
+        ensures state { self.new ≡ flat_after self.old (Actor.Hart h) (events.Miss va) }
+        ensures hart { slice_get self.new.harts h ≡ option_map missed (slice_get self.old.harts h) }
+    {
+        let hart = &mut self.harts[h as usize];
+        hart.miss();
     }
 
     // Whether a hart has made its write.
@@ -214,6 +339,7 @@ impl Flat {
         requires alone { length self.old.harts ≡ 1 }
         requires there { h < length self.old.harts }
         requires ordered { IsOrdered self.old }
+        requires more { HasOneMore self.old.met met.items }
         requires rising { IsRising (map met_key met.items) }
         ensures state { (generation page : ℕ) → met.items ≡ with_met self.old.met generation page → self.new ≡ flat_after self.old (Actor.Hart h) (events.Sync generation page) }
         ensures harts { self.new.harts ≡ self.old.harts }
@@ -269,7 +395,7 @@ impl Flat {
         ensures state { self.new ≡ flat_after self.old (Actor.Hart h) (events.Refused reason) }
         ensures hart { slice_get self.new.harts h ≡ option_map (answered (refused_answer reason)) (slice_get self.old.harts h) }
     {
-        let answer = number_of(reason);
+        let answer = answer_of(reason);
         let hart = &mut self.harts[h as usize];
         hart.answer(answer);
     }

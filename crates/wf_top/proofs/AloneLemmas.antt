@@ -6,18 +6,18 @@ use Rattle.std.proofs.lemmas.Bool.Decides.{nat_tests}
 use Rattle.wf_flat.specs.declared.event.Actor.{Actor}
 use Rattle.wf_flat.specs.declared.event.Actor.TheVariants.{Hart, Kernel}
 use Rattle.wf_flat.specs.declared.event.Event.{Event}
-use Rattle.wf_flat.specs.declared.event.Event.TheVariants.{Fetch, Look, Take, Put, Swap, Miss, End, Again, Wait, Enter, Sync, Trap, Exit, Out, Idle, Map, Going, Ending, Gone, Born, Move, Dead, Refused}
+use Rattle.wf_flat.specs.declared.event.Event.TheVariants.{Fetch, Look, Take, Put, Swap, Miss, End, Again, Enter, Sync, Trap, Exit, Out, Idle, Refused}
 use Rattle.wf_flat.specs.declared.event.Entry.{Entry}
 use Rattle.wf_flat.specs.State.{FlatState, HartState, PageState}
 use Rattle.wf_flat.specs.Lists.{changed_at, changed_by, others_changed}
 use Rattle.wf_flat.specs.Accesses.{Access, holds}
 use Rattle.wf_flat.specs.Memory.{page_of}
 use Rattle.wf_flat.specs.Refusals.{refused_answer}
-use Rattle.wf_flat.specs.Steps.{MayAct, access_in, is_inside, without, flat_after, change_hart, change_page, leave_hart, note_page, noted, noted_in, fetched_with, looked_with, taken_by, put_with, given_back, written_by, answered, ended, tried, exited_with, trapped_with, give_back, give_back_by, give_back_of}
+use Rattle.wf_flat.specs.Steps.{MayAct, access_in, is_inside, without, flat_after, change_hart, change_page, leave_hart, note_page, noted, noted_in, fetched_with, looked_with, taken_by, put_with, given_back, written_by, swapped_by, missed, answered, ended, tried, exited_with, trapped_with, give_back, give_back_by, give_back_of}
 use Rattle.wf_flat.specs.Calls.{IsNext, todo_left}
 use Rattle.wf_flat.specs.Legal.{Moment, Allows, IsLegal, after, end_of}
-use Rattle.wf_flat.specs.Laws.{IsOwn, IsUndisturbed, HartsAreDetermined}
-use Rattle.wf_top.proofs.StepLemmas.{some_and}
+use Rattle.wf_laws.specs.Laws.{IsOwn, IsUndisturbed, HartsAreDetermined}
+use Rattle.wf_step.proofs.StepLemmas.{some_and}
 
 -- one hart, for which no page has moved; no page is Going or held by another; and nobody else is inside
 pub record IsAlone (s : FlatState) : Type 0 where
@@ -103,17 +103,9 @@ keeps_flat s (Trap cause value) k = leaves s (trapped_with cause value) k (λ ha
 keeps_flat s (Again page) k = leaves s tried k (λ hart h. h)
 keeps_flat s (Out byte) k = hart_changes s (answered 0) k (λ hart h. h)
 keeps_flat s (Refused reason) k = hart_changes s (answered (refused_answer reason)) k (λ hart h. h)
-keeps_flat s (Swap va width old new) k = k
-keeps_flat s (Miss va) k = k
-keeps_flat s (Wait on) k = k
-keeps_flat s Idle k = k
-keeps_flat s (Map page n write patch) k = k
-keeps_flat s (Going page n) k = k
-keeps_flat s (Ending page) k = k
-keeps_flat s (Gone page worn) k = k
-keeps_flat s (Born generation parent patch) k = k
-keeps_flat s (Move generation) k = k
-keeps_flat s (Dead generation) k = k
+keeps_flat s (Swap va width old new) k = hart_changes (change_page s (page_of va) (put_with (va % 4096) width new)) (swapped_by old) (page_changes s (page_of va) (put_with (va % 4096) width new) k (λ page own. own)) (λ hart h. h)
+keeps_flat s (Miss va) k = hart_changes s missed k (λ hart h. h)
+keeps_flat s e k = k
 
 -- who acts outside is there
 may_there : (s : FlatState) (h : ℕ) (e : Event) → MayAct s (Hart h) e → (hart : HartState) × (slice_get s.harts h ≡ Some hart)
@@ -121,6 +113,8 @@ may_there s h (Fetch pc word) p = let w = some_and (slice_get s.harts h) _ p in 
 may_there s h (Look va width value) p = let w = some_and (slice_get s.harts h) _ p in (w.0, w.1)
 may_there s h (Take page) p = let w = some_and (slice_get s.harts h) _ p in (w.0, w.1)
 may_there s h (Put va width value) p = let w = some_and (slice_get s.harts h) _ p in (w.0, w.1)
+may_there s h (Swap va width old new) p = let w = some_and (slice_get s.harts h) _ p in (w.0, w.1)
+may_there s h (Miss va) p = let w = some_and (slice_get s.harts h) _ p in (w.0, w.1)
 may_there s h (End pc) p = let w = some_and (slice_get s.harts h) _ p in (w.0, w.1)
 may_there s h Enter p = let w = some_and (slice_get s.harts h) _ p in (w.0, w.1)
 may_there s h Idle p = let w = some_and (slice_get s.harts h) _ p in (w.0, w.1)
@@ -151,28 +145,7 @@ no_kernel o d = elim d [ inl e ↦ rw e refl | inr e ↦ rw e refl ]
 
 keeps_kernel : (m : Moment) (e : Event) → IsAlone m.flat → Allows m Kernel e → IsAlone (flat_after m.flat Kernel e)
 keeps_kernel m Idle k a = k
-keeps_kernel m (Fetch pc word) k a = absurd (subst (λ (b : Bool). MatchBool b (IsNext (todo_left m.flat Kernel m.call) (Fetch pc word)) (MayAct m.flat Kernel (Fetch pc word))) (no_kernel m.flat.inside k.inside) a)
-keeps_kernel m (Look va width value) k a = absurd (subst (λ (b : Bool). MatchBool b (IsNext (todo_left m.flat Kernel m.call) (Look va width value)) (MayAct m.flat Kernel (Look va width value))) (no_kernel m.flat.inside k.inside) a)
-keeps_kernel m (Take page) k a = absurd (subst (λ (b : Bool). MatchBool b (IsNext (todo_left m.flat Kernel m.call) (Take page)) (MayAct m.flat Kernel (Take page))) (no_kernel m.flat.inside k.inside) a)
-keeps_kernel m (Put va width value) k a = absurd (subst (λ (b : Bool). MatchBool b (IsNext (todo_left m.flat Kernel m.call) (Put va width value)) (MayAct m.flat Kernel (Put va width value))) (no_kernel m.flat.inside k.inside) a)
-keeps_kernel m (Swap va width old new) k a = absurd (subst (λ (b : Bool). MatchBool b (IsNext (todo_left m.flat Kernel m.call) (Swap va width old new)) (MayAct m.flat Kernel (Swap va width old new))) (no_kernel m.flat.inside k.inside) a)
-keeps_kernel m (Miss va) k a = absurd (subst (λ (b : Bool). MatchBool b (IsNext (todo_left m.flat Kernel m.call) (Miss va)) (MayAct m.flat Kernel (Miss va))) (no_kernel m.flat.inside k.inside) a)
-keeps_kernel m (End pc) k a = absurd (subst (λ (b : Bool). MatchBool b (IsNext (todo_left m.flat Kernel m.call) (End pc)) (MayAct m.flat Kernel (End pc))) (no_kernel m.flat.inside k.inside) a)
-keeps_kernel m (Again page) k a = absurd (subst (λ (b : Bool). MatchBool b (IsNext (todo_left m.flat Kernel m.call) (Again page)) (MayAct m.flat Kernel (Again page))) (no_kernel m.flat.inside k.inside) a)
-keeps_kernel m (Wait on) k a = absurd (subst (λ (b : Bool). MatchBool b (IsNext (todo_left m.flat Kernel m.call) (Wait on)) (MayAct m.flat Kernel (Wait on))) (no_kernel m.flat.inside k.inside) a)
-keeps_kernel m Enter k a = absurd (subst (λ (b : Bool). MatchBool b (IsNext (todo_left m.flat Kernel m.call) Enter) (MayAct m.flat Kernel Enter)) (no_kernel m.flat.inside k.inside) a)
-keeps_kernel m (Sync generation page) k a = absurd (subst (λ (b : Bool). MatchBool b (IsNext (todo_left m.flat Kernel m.call) (Sync generation page)) (MayAct m.flat Kernel (Sync generation page))) (no_kernel m.flat.inside k.inside) a)
-keeps_kernel m (Trap cause value) k a = absurd (subst (λ (b : Bool). MatchBool b (IsNext (todo_left m.flat Kernel m.call) (Trap cause value)) (MayAct m.flat Kernel (Trap cause value))) (no_kernel m.flat.inside k.inside) a)
-keeps_kernel m (Exit code) k a = absurd (subst (λ (b : Bool). MatchBool b (IsNext (todo_left m.flat Kernel m.call) (Exit code)) (MayAct m.flat Kernel (Exit code))) (no_kernel m.flat.inside k.inside) a)
-keeps_kernel m (Out byte) k a = absurd (subst (λ (b : Bool). MatchBool b (IsNext (todo_left m.flat Kernel m.call) (Out byte)) (MayAct m.flat Kernel (Out byte))) (no_kernel m.flat.inside k.inside) a)
-keeps_kernel m (Map page n write patch) k a = absurd (subst (λ (b : Bool). MatchBool b (IsNext (todo_left m.flat Kernel m.call) (Map page n write patch)) (MayAct m.flat Kernel (Map page n write patch))) (no_kernel m.flat.inside k.inside) a)
-keeps_kernel m (Going page n) k a = absurd (subst (λ (b : Bool). MatchBool b (IsNext (todo_left m.flat Kernel m.call) (Going page n)) (MayAct m.flat Kernel (Going page n))) (no_kernel m.flat.inside k.inside) a)
-keeps_kernel m (Ending page) k a = absurd (subst (λ (b : Bool). MatchBool b (IsNext (todo_left m.flat Kernel m.call) (Ending page)) (MayAct m.flat Kernel (Ending page))) (no_kernel m.flat.inside k.inside) a)
-keeps_kernel m (Gone page worn) k a = absurd (subst (λ (b : Bool). MatchBool b (IsNext (todo_left m.flat Kernel m.call) (Gone page worn)) (MayAct m.flat Kernel (Gone page worn))) (no_kernel m.flat.inside k.inside) a)
-keeps_kernel m (Born generation parent patch) k a = absurd (subst (λ (b : Bool). MatchBool b (IsNext (todo_left m.flat Kernel m.call) (Born generation parent patch)) (MayAct m.flat Kernel (Born generation parent patch))) (no_kernel m.flat.inside k.inside) a)
-keeps_kernel m (Move generation) k a = absurd (subst (λ (b : Bool). MatchBool b (IsNext (todo_left m.flat Kernel m.call) (Move generation)) (MayAct m.flat Kernel (Move generation))) (no_kernel m.flat.inside k.inside) a)
-keeps_kernel m (Dead generation) k a = absurd (subst (λ (b : Bool). MatchBool b (IsNext (todo_left m.flat Kernel m.call) (Dead generation)) (MayAct m.flat Kernel (Dead generation))) (no_kernel m.flat.inside k.inside) a)
-keeps_kernel m (Refused reason) k a = absurd (subst (λ (b : Bool). MatchBool b (IsNext (todo_left m.flat Kernel m.call) (Refused reason)) (MayAct m.flat Kernel (Refused reason))) (no_kernel m.flat.inside k.inside) a)
+keeps_kernel m e k a = absurd (subst (λ (b : Bool). MatchBool b (IsNext (todo_left m.flat Kernel m.call) e) (MayAct m.flat Kernel e)) (no_kernel m.flat.inside k.inside) a)
 
 keeps_hart : (m : Moment) (h : ℕ) (e : Event) → IsAlone m.flat → Allows m (Hart h) e → IsAlone (flat_after m.flat (Hart h) e)
 keeps_hart m h e k a = subst (λ (n : ℕ). IsAlone (flat_after m.flat (Hart n) e)) (sym (is_first m h e k a)) (keeps_flat m.flat e k)

@@ -8,7 +8,7 @@ use Rattle.wf_outside.specs.declared.status.LimitKind.TheVariants.{File}
 use Rattle.wf_outside.specs.declared.status.Unbuilt.TheVariants.{Image, Script, Step}
 use Rattle.wf_flat.specs.declared.event.Entry.{Entry}
 use Rattle.wf_flat.specs.Legal.{end_of}
-use Rattle.wf_flat.specs.Laws.{HartsAreDetermined, UnbuiltHasNoUnit}
+use Rattle.wf_laws.specs.Laws.{HartsAreDetermined, UnbuiltHasNoUnit}
 use Rattle.wf_top.specs.declared.script.Command.{Command}
 use Rattle.wf_top.specs.PlainImage.{image_of}
 use Rattle.wf_top.specs.PlainScript.{IsScript, IsScriptFault}
@@ -16,7 +16,7 @@ use Rattle.wf_top.specs.Running.{start_of}
 use Rattle.wf_top.specs.Report.{report_bytes}
 use Rattle.wf_top.specs.Answers.{IsTooLong, Reads, HoldsImage, HoldsBoth, CallsFor, max_file}
 use Rattle.wf_top.specs.Laws.{AnswersAreOne, ReportsAreOne, RunsMeetNothing}
-use Rattle.wf_top.proofs.StepLemmas.{some_and}
+use Rattle.wf_step.proofs.StepLemmas.{some_and}
 use Rattle.wf_top.proofs.ScriptLemmas.{no_fault, same_script, same_fault}
 use Rattle.wf_top.proofs.StartLemmas.{start_alone}
 use Rattle.wf_top.proofs.DeterminedLemmas.{follows_same, meets_nothing, meets_one}

@@ -1,12 +1,6 @@
 pub mod ImageLemmas
 pub mod LineLemmas
 pub mod ScriptLemmas
-pub mod DeedLemmas
-pub mod StepLemmas
-pub mod AccessLemmas
-pub mod MakingLemmas
-pub mod ServingLemmas
-pub mod CarryLemmas
 pub mod RunLemmas
 pub mod AloneLemmas
 pub mod StartLemmas

@@ -3,31 +3,24 @@ use Rattle.std.proofs.Common.{◌≡◌, ◌<◌, ◌+◌, ◌++◌, ℕ, zero, 
 use Rattle.std.proofs.lemmas.List.{take_more}
 use Rattle.wf_flat.specs.declared.event.Entry.{Entry}
 use Rattle.wf_flat.specs.State.{FlatState}
-use Rattle.wf_flat.specs.Legal.{Moment, IsLegal, after, end_of, at_rest}
+use Rattle.wf_flat.specs.Legal.{Moment, IsLegal, end_of, at_rest}
 use Rattle.wf_flat.specs.Follows.{IsUnit, AreUnits}
 use Rattle.wf_flat.specs.Unbuilt.{IsUnbuilt}
 use Rattle.wf_top.specs.declared.script.Command.{Command}
 use Rattle.wf_top.specs.declared.script.Command.TheVariants.{Step}
 use Rattle.wf_top.specs.Follows.{IsBlock, Follows, MeetsUnbuiltAt, MeetsUnbuilt}
-use Rattle.wf_top.specs.Stepping.{IsResting, Continues, StopsIn, StopsInUnits}
+use Rattle.wf_step.specs.Stepping.{IsResting, Continues}
+use Rattle.wf_step.proofs.JournalLemmas.{legal-append, end_of-append}
+use Rattle.wf_top.specs.Following.{StopsIn}
 
--- the moment after both
-pub end_of-append : (m : Moment) (es fs : List Entry) → end_of m (es ++ fs) ≡ end_of (end_of m es) fs
-end_of-append m [] fs = refl
-end_of-append m (e ∷ es) fs = end_of-append (after m e.actor e.event) es fs
-
--- both are legal
-pub legal-append : (m : Moment) (es fs : List Entry) → IsLegal m es → IsLegal (end_of m es) fs → IsLegal m (es ++ fs)
-legal-append m [] fs p q = q
-legal-append m (e ∷ es) fs p q = (p.0, legal-append (after m e.actor e.event) es fs p.1 q)
-
-pub legal_front : (m : Moment) (es fs : List Entry) → IsLegal m (es ++ fs) → IsLegal m es
-legal_front m [] fs p = tt
-legal_front m (e ∷ es) fs p = (p.0, legal_front (after m e.actor e.event) es fs p.1)
-
-pub legal_back : (m : Moment) (es fs : List Entry) → IsLegal m (es ++ fs) → IsLegal (end_of m es) fs
-legal_back m [] fs p = p
-legal_back m (e ∷ es) fs p = legal_back (after m e.actor e.event) es fs p.1
+-- the hart made fewer units, and then met what is not built
+pub record StopsInUnits (old : FlatState) (hart all pc : ℕ) : Type 0 where
+  pub made : List Entry
+  pub units : ℕ
+  pub fewer : units < all
+  pub fits : AreUnits hart units made
+  pub legal : IsLegal (at_rest old) made
+  pub meets : MeetsUnbuiltAt (end_of (at_rest old) made) hart pc
 
 -- going on
 pub continues_more : {s mid new : FlatState} {old mids now : List Entry} {P Q : List Entry → Type 0} (R : List Entry → Type 0)

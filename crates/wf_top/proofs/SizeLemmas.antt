@@ -6,7 +6,8 @@ use Rattle.std.specs.Prelude.{IfSome}
 use Rattle.wf_top.specs.declared.script.Command.{Command}
 use Rattle.wf_top.specs.declared.script.Command.TheVariants.{Step}
 use Rattle.wf_top.specs.PlainScript.{IsPlain}
-use Rattle.wf_top.specs.Stepping.{IsResting, IsThere}
+use Rattle.wf_step.specs.Stepping.{IsResting}
+use Rattle.wf_top.specs.Following.{IsThere}
 use Rattle.wf_outside.specs.Pages.{LimitsValue}
 use Rattle.wf_outside.specs.Images.{ImageValue}
 use Rattle.wf_flat.specs.State.{FlatState}

@@ -8,7 +8,7 @@ use Rattle.wf_flat.specs.declared.state.Stage.TheVariants.{Here}
 use Rattle.wf_flat.specs.State.{PageState}
 use Rattle.wf_flat.specs.Lists.{inserted_by, sorted_by}
 use Rattle.wf_flat.specs.Boot.{boot_pages, fresh_page, stacks_of, stack_of, numbered_from, boot_harts}
-use Rattle.wf_flat.specs.Laws.{IsOwn}
+use Rattle.wf_laws.specs.Laws.{IsOwn}
 use Rattle.wf_top.specs.Running.{start_of}
 use Rattle.wf_top.proofs.AloneLemmas.{IsAlone}
 

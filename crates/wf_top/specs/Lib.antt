@@ -5,7 +5,7 @@ pub mod PlainLines
 pub mod Lines
 pub mod Report
 pub mod Follows
-pub mod Stepping
+pub mod Following
 pub mod Running
 pub mod Answers
 pub mod Laws

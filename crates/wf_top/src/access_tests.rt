@@ -1,16 +1,9 @@
 //! Loads and stores, whose bytes were worked by hand from the tables of the manual.
-ghost use Rattle.std.specs.Prelude.{◌≡◌, ◌<◌, ◌≤◌, IfOk, length};
-ghost use Rattle.wf_top.specs.Stepping.{IsResting};
+ghost use Rattle.std.specs.Prelude.{◌<◌, ◌≤◌};
 
-use crate::plain_image::read_image;
-use crate::report::report;
-use crate::script::Command;
-use crate::stepping::follow;
-use crate::tests::{image_of, journal_of};
+use crate::tests::{counting, journal_of, report_of};
 use std::alloc::Global;
 use std::test::Fail;
-use wf_flat::{Flat, boot};
-use wf_outside::Limits;
 
 // What is stored, as the two words that follow a program in its text: the bytes f8 e9 da cb 7c ad 6e 8f,
 // lowest first. The top bit of its low 1, 2, 4 and 8 bytes is 1.
@@ -649,34 +642,6 @@ h0 end 10020
     let got = journal_of(alloc, &words, "step h0 8\n")?;
     assert_eq!(rt; str::from_utf8(&got)?, want);
     Ok(())
-}
-
-// The state of one hart at the start of a program, where counts of writes go so far.
-fn counting(alloc: Global, words: &[u32], last_writes: u64) -> Result<Flat, Fail>
-    requires first { 1 ≤ last_writes }
-    requires low { last_writes < 1000 }
-    ensures rests { IfOk result (λ flat. IsResting flat) }
-    ensures one { IfOk result (λ flat. length flat.harts ≡ 1) }
-{
-    let Some(image) = read_image(alloc, &image_of(alloc, words)?)? else {
-        return Err(Fail::new("no image"));
-    };
-    let limits = Limits {
-        frames: 1024,
-        last_writes,
-        last_birth: 1000,
-    };
-    Ok(boot(alloc, &image, 1, limits)?)
-}
-
-// The report of so many units of it.
-fn report_of(alloc: Global, flat: &mut Flat, n: u64) -> Result<Vec<u8>, Fail>
-    requires rests { IsResting flat.old }
-    requires one { length flat.old.harts ≡ 1 }
-{
-    let mut journal = Vec::new(alloc);
-    follow(flat, &mut journal, &[Command::Step { hart: 0, n }])?;
-    Ok(report(alloc, &journal, flat)?)
 }
 
 // Nine words and their report where counts of writes go so far, after so many of them:

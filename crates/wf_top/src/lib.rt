@@ -3,17 +3,21 @@
 
 #[cfg(test)]
 mod access_tests;
-mod accesses;
-mod deeds;
+#[cfg(test)]
+mod atomic_tests;
+mod following;
 mod input;
 mod laws;
 mod lines;
 mod output;
 mod plain_image;
 mod report;
+#[cfg(test)]
+mod report_tests;
+#[cfg(test)]
+mod reservation_tests;
 mod running;
 mod script;
-mod stepping;
 #[cfg(test)]
 mod tests;
 mod words;

@@ -10,16 +10,17 @@ ghost use Rattle.wf_top.specs.Running.{IsRun, sizes};
 ghost use Rattle.wf_top.specs.Fetching.{IsRunStatus};
 ghost use Rattle.wf_top.specs.Answers.{HoldsImage, CallsFor, IfRun, IsFault, PutsRun, PutsFront};
 
+use crate::following::follow;
 use crate::input::{fetch_image, fetch_script};
 use crate::laws::runs_are_determined;
 use crate::output::put_all;
 use crate::report::report;
 use crate::script::Command;
-use crate::stepping::{StepFault, follow};
 use crate::words::read_words;
 use std::alloc::Global;
 use wf_flat::{BootFault, boot};
 use wf_outside::{Image, Limits, Memory, Shelf, Sink, Status, Text, Unbuilt};
+use wf_step::StepFault;
 
 const SIZES: Limits = Limits {
     frames: 1024,

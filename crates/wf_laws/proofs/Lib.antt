@@ -1,0 +1,13 @@
+pub mod DeterminedLemmas
+pub mod UnbuiltLemmas
+pub mod StayLemmas
+pub mod FetchLemmas
+pub mod PageLemmas
+pub mod HolderLemmas
+pub mod ByteLemmas
+pub mod FitLemmas
+pub mod LatestLemmas
+pub mod GripLemmas
+pub mod ReservationLemmas
+pub mod FollowLemmas
+pub mod StartLemmas

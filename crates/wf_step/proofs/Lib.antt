@@ -1,0 +1,7 @@
+pub mod DeedLemmas
+pub mod JournalLemmas
+pub mod StepLemmas
+pub mod AccessLemmas
+pub mod MakingLemmas
+pub mod ServingLemmas
+pub mod CarryLemmas
