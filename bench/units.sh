@@ -1,7 +1,8 @@
 #!/bin/sh
 # A program for UNITS units, RUNS times (20): microseconds a run, the report's bytes, and the peak of memory.
 # NAME is idle, the example of three instructions, of whose units all but three are idle; loop, a sum and a
-# branch back, without end; or memory, a store on the stack, a load of it, a sum and a jump back, without end.
+# branch back, without end; memory, a store on the stack, a load of it, a sum and a jump back, without end; or
+# atomic, a load-reserved, a store-conditional and an atomic sum on the stack, and a jump back, without end.
 # It wants the program that `rt ci` left in crates/wfpatch/out, and GNU time. Run it at the top of the
 # repository: bench/units.sh NAME UNITS [RUNS]
 set -eu
@@ -26,6 +27,14 @@ memory)
         printf '\020' | dd of="$folder/prog.elf" bs=1 seek=$place conv=notrunc status=none
     done
     printf '\043\074\121\376\003\063\201\377\223\202\022\000\157\360\137\377' >>"$folder/prog.elf"
+    ;;
+atomic)
+    # addi x9, x2, -8; lr.d x6, (x9); sc.d x7, x5, (x9); amoadd.d x8, x5, (x9); jal x0, -12: a text of 20 bytes
+    head -c 4096 crates/wfpatch/data/prog.elf >"$folder/prog.elf"
+    for place in 96 104; do
+        printf '\024' | dd of="$folder/prog.elf" bs=1 seek=$place conv=notrunc status=none
+    done
+    printf '\223\004\201\377\057\263\004\020\257\263\124\030\057\264\124\000\157\360\137\377' >>"$folder/prog.elf"
     ;;
 *)
     echo "no program $name" >&2

@@ -7,4 +7,3 @@ pub mod FoundLemmas
 pub mod WordLemmas
 pub mod HartLemmas
 pub mod ChangeLemmas
-pub mod TestLemmas

@@ -8,8 +8,6 @@ mod data;
 mod event;
 mod hart;
 mod state;
-#[cfg(test)]
-mod tests;
 mod text;
 
 pub use booting::{BootFault, boot};

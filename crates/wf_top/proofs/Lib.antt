@@ -10,3 +10,4 @@ pub mod PutLemmas
 pub mod ReportLemmas
 pub mod SizeLemmas
 pub mod TopLemmas
+pub mod TestLemmas

@@ -19,6 +19,8 @@ mod reservation_tests;
 mod running;
 mod script;
 #[cfg(test)]
+mod start_tests;
+#[cfg(test)]
 mod tests;
 mod words;
 

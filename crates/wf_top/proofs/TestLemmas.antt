@@ -1,18 +1,10 @@
--- The images of the tests.
-use Rattle.std.proofs.Common.{◌≡◌, ◌<◌, ◌≤◌, ◌⊎◌, inl, inr, ◌%◌, ◌/◌, ◌++◌, ℕ, pos, Option, None, Some, List, [], ◌∷◌, length, get_or, slice_get, nat_eq, refl, arith}
-use Rattle.std.specs.Option.{option_map}
-use Rattle.std.proofs.lemmas.Option.{slice_get_cases}
+-- The images of tests.
+use Rattle.std.proofs.Common.{◌≡◌, ◌<◌, ◌%◌, ◌/◌, ◌++◌, ℕ, List, [], ◌∷◌, nat_eq, refl, arith}
 use Rattle.std.specs.Prelude.{All, Contains}
 use Rattle.std.specs.List.{IsDistinct}
 use Rattle.std.proofs.lemmas.List.Elements.{All-nil, All-cons}
-use Rattle.rv_alu.specs.declared.op.AluOp.TheVariants.{Add}
-use Rattle.rv_inst.specs.declared.inst.Inst.TheVariants.{AluImm}
-use Rattle.rv_inst.specs.Decoding.{inst_of, inst_by}
 use Rattle.wf_outside.specs.Pages.{PageValue, DataPageValue}
 use Rattle.wf_outside.specs.Images.{IsImage, text_numbers, data_numbers}
-use Rattle.wf_flat.specs.State.{FlatState, HartState}
-use Rattle.wf_flat.specs.Accesses.{held_by}
-use Rattle.wf_flat.specs.Steps.{OfHart, fetched_with, access_in}
 
 one_distinct : IsDistinct nat_eq (0x10 ∷ [])
 unfolding IsDistinct
@@ -45,17 +37,3 @@ unsorted_is text pages t d =
     (All-cons (λ n. n < 0x3E00000) 0x12 (0x10 ∷ []) (omega arith) (All-cons (λ n. n < 0x3E00000) 0x10 [] (omega arith) (All-nil (λ n. n < 0x3E00000))))
     (All-cons (λ n. n < 0x3E00000) 0x20 (0x11 ∷ []) (omega arith) (All-cons (λ n. n < 0x3E00000) 0x11 [] (omega arith) (All-nil (λ n. n < 0x3E00000))))
     refl (0, omega arith, refl)
-
--- the instruction of the tests' word
-pub addi_is : inst_of 0x700513 ≡ Some (AluImm Add 10 0 (pos 7))
-unfolding inst_of inst_by
-addi_is = refl
-
--- a hart that has fetched that word holds no page
-pub addi_holds : (s : FlatState) (hart : Option HartState) → slice_get s.harts 0 ≡ option_map (fetched_with 0x700513) hart → 0 < length s.harts → OfHart s 0 (λ hart. None ≡ held_by s 0 (access_in hart))
-addi_holds s None e lt = absurd (lacks (slice_get_cases s.harts 0).1)
-  where
-    lacks : ((x : HartState) × (0 < length s.harts) × (slice_get s.harts 0 ≡ Some x) × (get_or s.harts 0 x ≡ x)) ⊎ ((length s.harts ≤ 0) × (slice_get s.harts 0 ≡ None)) → ⊥
-    lacks (inl w) = let k = w.2 in cc
-    lacks (inr w) = omega arith
-addi_holds s (Some hart) e lt = rw (e, addi_is) refl

@@ -1,12 +1,11 @@
-//! Answers that were found by hand, and that calls succeed where memory is ample.
-ghost use Rattle.std.specs.Prelude.{◌≡◌, ◌<◌, ◌^◌, IfOk, Some, ◌≤◌, length};
-ghost use Rattle.wf_flat.specs.Steps.{arch_after};
+//! Starts that were found by hand.
+ghost use Rattle.std.specs.Prelude.{◌≡◌, ◌<◌, ◌^◌, IfOk, ◌≤◌, length};
 
-use crate::{Actor, BootFault, Flat, FlatHart, Life, boot};
 use rv_inst::Arch;
 use std::alloc::Global;
 use std::test::Fail;
-use wf_outside::{DataPage, Image, Limits, Memory, Page, Refusal};
+use wf_flat::{BootFault, Flat, boot};
+use wf_outside::{DataPage, Image, Limits, Memory, Page};
 
 // 512 words: the first, the last, and zeros between.
 fn words(alloc: Global, first: u64, last: u64) -> Result<Vec<u64>, Memory>
@@ -169,70 +168,5 @@ fn pages_are_sorted_and_text_is_read(rt: HostRuntime) -> Result<(), Fail> {
     ] {
         assert_eq!(rt; flat.text_word(generation, at), word, "{generation} {at:x}");
     }
-    Ok(())
-}
-
-// The pc and registers after an addi of x10, x0 and 7.
-#[tactic(auto, using(crate::proofs::TestLemmas::addi_is))]
-fn after_addi(hart: &FlatHart) -> Arch
-    requires { hart.now.fetched ≡ Some 0x700513 }
-    ensures { result ≡ arch_after hart.now }
-{
-    let mut next = hart.arch;
-    next.pc = next.pc.wrapping_add(4);
-    next.x[10] = 7;
-    next
-}
-
-#[test]
-fn a_hart_adds_and_exits(rt: HostRuntime) -> Result<(), Fail> {
-    let alloc = rt.alloc();
-    let mut flat = boot(alloc, &small_image(alloc)?, 1, limits(1024))?;
-    assert_eq!(rt; flat.harts.len(), 1);
-    flat.harts[0].looked = Some(1);
-    flat.harts[0].put = true;
-    flat.harts[0].moved.push(0x11)?;
-    flat.fetch(0, 0x1_0000, 0x0070_0513);
-    assert_eq!(rt; flat.harts.len(), 1);
-    assert_eq!(rt; flat.harts[0].fetched, Some(0x0070_0513));
-    assert_eq!(rt; (flat.harts[0].looked, flat.harts[0].put), (None, false));
-    assert_eq!(rt; flat.harts[0].moved.len(), 0);
-    let next = after_addi(&flat.harts[0]);
-    flat.end(0, None, next);
-    assert_eq!(rt; flat.harts.len(), 1);
-    assert_eq!(rt; flat.harts[0].fetched, None);
-    assert_eq!(rt; flat.harts[0].arch.pc, 0x1_0004);
-    assert_eq!(rt; flat.harts[0].arch.x[10], 7);
-    flat.enter(Actor::Hart(0));
-    assert_eq!(rt; flat.inside, Some(Actor::Hart(0)));
-    assert_eq!(rt; flat.harts.len(), 1);
-    flat.exit(0, 7);
-    assert_eq!(rt; flat.inside, None);
-    assert_eq!(rt; flat.harts.len(), 1);
-    assert_eq!(rt; flat.harts[0].life, Life::Exited { code: 7 });
-    Ok(())
-}
-
-#[test]
-fn a_hart_is_answered_and_trapped(rt: HostRuntime) -> Result<(), Fail> {
-    let alloc = rt.alloc();
-    let mut flat = boot(alloc, &small_image(alloc)?, 1, limits(1024))?;
-    assert_eq!(rt; flat.harts.len(), 1);
-    flat.enter(Actor::Hart(0));
-    flat.out(0, 0x41);
-    assert_eq!(rt; flat.harts.len(), 1);
-    assert_eq!(rt; flat.harts[0].looked, Some(0));
-    flat.refuse(0, Refusal::Number { n: 9 });
-    assert_eq!(rt; flat.harts.len(), 1);
-    assert_eq!(rt; flat.harts[0].looked, Some(0xFFFF_FFFF_FFFF_FFF6));
-    assert_eq!(rt; flat.inside, Some(Actor::Hart(0)));
-    flat.trap(0, 2, 0xFF);
-    assert_eq!(rt; flat.inside, None);
-    assert_eq!(rt; flat.harts.len(), 1);
-    let trapped = Life::Trapped {
-        cause: 2,
-        value: 0xFF,
-    };
-    assert_eq!(rt; flat.harts[0].life, trapped);
     Ok(())
 }

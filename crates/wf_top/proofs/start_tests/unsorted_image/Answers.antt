@@ -1,7 +1,7 @@
 use Rattle.std.proofs.Common.{◌≡◌, [], ◌∷◌, rules}
 use Rattle.wf_outside.specs.Images.{text_numbers, data_numbers}
-use Rattle.wf_flat.proofs.TestLemmas.{unsorted_is}
-use Rattle.wf_flat.proofs.tests.unsorted_image.Goals as goal
+use Rattle.wf_top.proofs.TestLemmas.{unsorted_is}
+use Rattle.wf_top.proofs.start_tests.unsorted_image.Goals as goal
 
 pub invariant_of-result : goal.invariant_of-result
 invariant_of-result c =
