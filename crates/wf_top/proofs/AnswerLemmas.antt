@@ -13,7 +13,7 @@ use Rattle.wf_top.specs.declared.script.Command.{Command}
 use Rattle.wf_top.specs.PlainImage.{image_of}
 use Rattle.wf_top.specs.PlainScript.{IsScript, IsScriptFault}
 use Rattle.wf_top.specs.Running.{start_of}
-use Rattle.wf_top.specs.Report.{report_bytes}
+use Rattle.wf_report.specs.Report.{report_bytes}
 use Rattle.wf_top.specs.Answers.{IsTooLong, Reads, HoldsImage, HoldsBoth, CallsFor, max_file}
 use Rattle.wf_top.specs.Laws.{AnswersAreOne, ReportsAreOne, RunsMeetNothing}
 use Rattle.wf_step.proofs.StepLemmas.{some_and}

@@ -7,7 +7,6 @@ pub mod StartLemmas
 pub mod DeterminedLemmas
 pub mod AnswerLemmas
 pub mod PutLemmas
-pub mod ReportLemmas
 pub mod SizeLemmas
 pub mod TopLemmas
 pub mod TestLemmas

@@ -2,8 +2,6 @@ pub mod Words
 pub mod PlainImage
 pub mod PlainScript
 pub mod PlainLines
-pub mod Lines
-pub mod Report
 pub mod Follows
 pub mod Following
 pub mod Running

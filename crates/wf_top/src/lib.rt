@@ -8,12 +8,8 @@ mod atomic_tests;
 mod following;
 mod input;
 mod laws;
-mod lines;
 mod output;
 mod plain_image;
-mod report;
-#[cfg(test)]
-mod report_tests;
 #[cfg(test)]
 mod reservation_tests;
 mod running;

@@ -14,12 +14,12 @@ use crate::following::follow;
 use crate::input::{fetch_image, fetch_script};
 use crate::laws::runs_are_determined;
 use crate::output::put_all;
-use crate::report::report;
 use crate::script::Command;
 use crate::words::read_words;
 use std::alloc::Global;
 use wf_flat::{BootFault, boot};
 use wf_outside::{Image, Limits, Memory, Shelf, Sink, Status, Text, Unbuilt};
+use wf_report::report;
 use wf_step::StepFault;
 
 const SIZES: Limits = Limits {

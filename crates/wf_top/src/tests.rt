@@ -4,14 +4,13 @@ ghost use Rattle.wf_step.specs.Stepping.{IsResting};
 
 use crate::following::follow;
 use crate::plain_image::read_image;
-use crate::report::report;
-use crate::report_tests::START;
 use crate::script::Command;
 use crate::top;
 use std::alloc::Global;
 use std::test::Fail;
 use wf_flat::{Flat, boot};
 use wf_outside::{LimitKind, Limits, MemShelf, MemSink, Shelf, ShelfFault, Status, Text, Unbuilt};
+use wf_report::report;
 
 // The one image of these tests: `addi x17, x0, 0`, `addi x10, x0, 7`, `ecall`.
 const TEXT: [u8; 12] = [
@@ -37,6 +36,19 @@ const HEADER: [(usize, u8); 16] = [
     (73, 0x10),
     (82, 1),
 ];
+
+// The report of the empty script.
+const START: &str = "wfpatch run 1
+harts 1
+frames 1024
+= hart 0 gen 0 pc 10000 running
+= regs 0 0 3e00010000 0 0 0 0 0 0 0 0 0 0 0 0 0 0 0 0 0 0 0 0 0 0 0 0 0 0 0 0 0
+= gen 0 parent - live patches 0
+= page 3e0000c rw here writes 0
+= page 3e0000d rw here writes 0
+= page 3e0000e rw here writes 0
+= page 3e0000f rw here writes 0
+";
 
 // The report of a run of the image to its exit, up to the exit.
 const FRONT: &str = "wfpatch run 1

@@ -3,7 +3,7 @@ use Rattle.std.proofs.Common.{◌≡◌, ◌<◌, ◌≤◌, ◌+◌, ◌++◌, 
 use Rattle.std.proofs.Math.Seq.{drop-cons}
 use Rattle.std.proofs.lemmas.List.{drop_all}
 use Rattle.wf_flat.specs.State.{HartState}
-use Rattle.wf_top.specs.Report.{harts_from, hart_lines, word_line, word_lines}
+use Rattle.wf_report.specs.Report.{harts_from, hart_lines, word_line, word_lines}
 
 pub harts_from-drop : (harts : List HartState) (n i : ℕ) (d : HartState) → i < length harts
     → harts_from n (drop i harts) ≡ hart_lines n (get_or harts i d) ++ harts_from (n + 1) (drop (i + 1) harts)

@@ -1,6 +1,6 @@
 //! The text of a journal's entry.
 ghost use Rattle.std.specs.Prelude.{Some, encode_utf8};
-ghost use Rattle.wf_top.specs.Lines.{actor_text, refusal_text, right_text, patch_text, event_text, entry_bytes};
+ghost use Rattle.wf_report.specs.Lines.{actor_text, refusal_text, right_text, patch_text, event_text, entry_bytes};
 
 use std::fmt;
 use wf_flat::{Actor, Entry, Event, WaitFor};

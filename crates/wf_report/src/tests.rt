@@ -1,7 +1,7 @@
 //! Reports whose every byte was written by hand.
 ghost use Rattle.std.specs.Prelude.{◌≡◌, IfOk, replicate};
 
-use crate::report::report;
+use crate::report;
 use std::alloc::Global;
 use std::test::Fail;
 use wf_flat::{Actor, Entry, Event, Flat, FlatPage, Gen, Life, Stage, WaitFor, boot};
@@ -85,7 +85,7 @@ fn refused(reason: Refusal) -> Entry {
 }
 
 // The report of the empty script.
-pub(crate) const START: &str = "wfpatch run 1
+const START: &str = "wfpatch run 1
 harts 1
 frames 1024
 = hart 0 gen 0 pc 10000 running

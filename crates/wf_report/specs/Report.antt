@@ -8,7 +8,7 @@ use Rattle.wf_flat.specs.declared.state.Stage.TheVariants.{Here, Going, Ending}
 use Rattle.wf_flat.specs.declared.state.Life.{Life}
 use Rattle.wf_flat.specs.declared.state.Life.TheVariants.{Running, Exited, Trapped}
 use Rattle.wf_flat.specs.State.{FlatState, HartState, GenState, PageState}
-use Rattle.wf_top.specs.Lines.{entry_bytes, right_text, hex}
+use Rattle.wf_report.specs.Lines.{entry_bytes, right_text, hex}
 
 -- a line ends with a newline
 abbrev pub entry_line : Entry → List ℕ

@@ -1,6 +1,6 @@
 use Rattle.std.proofs.Common.{◌≡◌, ◌+◌, ◌*◌, arith, append_assoc, append-nil}
-use Rattle.wf_top.proofs.ReportLemmas.{word_lines-drop, word_lines-end}
-use Rattle.wf_top.proofs.report.append_words.Goals as goal
+use Rattle.wf_report.proofs.ReportLemmas.{word_lines-drop, word_lines-end}
+use Rattle.wf_report.proofs.reporting.append_words.Goals as goal
 
 pub loop-place-preserved : goal.loop-place-preserved
 loop-place-preserved c =

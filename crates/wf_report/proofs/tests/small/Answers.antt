@@ -1,7 +1,7 @@
 use Rattle.std.proofs.Common.{◌≡◌, ◌<◌, ℕ, [], ◌∷◌, get_or, refl, arith}
 use Rattle.std.specs.Prelude.{nat_eq}
 use Rattle.std.specs.List.{IsDistinct}
-use Rattle.wf_top.proofs.report_tests.small.Goals as goal
+use Rattle.wf_report.proofs.tests.small.Goals as goal
 
 one_apart : IsDistinct nat_eq (16 ∷ [])
 unfolding IsDistinct

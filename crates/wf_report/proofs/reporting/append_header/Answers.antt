@@ -1,6 +1,6 @@
 use Rattle.std.proofs.Common.{append_assoc}
-use Rattle.wf_top.specs.Report.{header}
-use Rattle.wf_top.proofs.report.append_header.Goals as goal
+use Rattle.wf_report.specs.Report.{header}
+use Rattle.wf_report.proofs.reporting.append_header.Goals as goal
 
 pub returns : goal.returns
 unfolding header

@@ -1,7 +1,7 @@
 //! The whole report of a run.
 ghost use Rattle.std.specs.Prelude.{◌≡◌, ◌<◌, ◌+◌, ◌*◌, ◌^◌, ◌++◌, OnOk, IfOk, string_bytes, length, Some};
 ghost use Rattle.std.specs.List.{flat_map};
-ghost use Rattle.wf_top.specs.Report.{entry_line, header, register_text, life_text, hart_head, registers_head, hart_lines, harts_from, parent_text, live_text, gen_line, holder_text, stage_text, page_line, word_line, word_lines, page_lines, report_bytes};
+ghost use Rattle.wf_report.specs.Report.{entry_line, header, register_text, life_text, hart_head, registers_head, hart_lines, harts_from, parent_text, live_text, gen_line, holder_text, stage_text, page_line, word_line, word_lines, page_lines, report_bytes};
 
 use crate::lines::{EntryText, RightText};
 use std::alloc::Global;
