@@ -12,30 +12,24 @@ runs=${3:-20}
 program=$PWD/crates/wfpatch/out/wfpatch
 folder=$(mktemp -d)
 trap 'rm -rf "$folder"' EXIT
+# The example's headers with another text, and its bytes: their count, in octal, stands at 96 for the file and at
+# 104 for memory.
+text() {
+    head -c 4096 crates/wfpatch/data/prog.elf >"$folder/prog.elf"
+    for place in 96 104; do
+        printf "\\$1" | dd of="$folder/prog.elf" bs=1 seek=$place conv=notrunc status=none
+    done
+    printf "$2" >>"$folder/prog.elf"
+}
+
 case $name in
 idle) cp crates/wfpatch/data/prog.elf "$folder" ;;
-loop)
-    # addi x1, x1, 1; bne x1, x0, -4; addi x0, x0, 0: as long as the example's text
-    head -c 4096 crates/wfpatch/data/prog.elf >"$folder/prog.elf"
-    printf '\223\200\020\000\343\236\000\376\023\000\000\000' >>"$folder/prog.elf"
-    ;;
-memory)
-    # sd x5, -8(x2); ld x6, -8(x2); addi x5, x5, 1; jal x0, -12: x2 is where the stack ends. The text is of 16
-    # bytes, not 12 as the example's: so say its sizes in the file, at 96, and in memory, at 104
-    head -c 4096 crates/wfpatch/data/prog.elf >"$folder/prog.elf"
-    for place in 96 104; do
-        printf '\020' | dd of="$folder/prog.elf" bs=1 seek=$place conv=notrunc status=none
-    done
-    printf '\043\074\121\376\003\063\201\377\223\202\022\000\157\360\137\377' >>"$folder/prog.elf"
-    ;;
-atomic)
-    # addi x9, x2, -8; lr.d x6, (x9); sc.d x7, x5, (x9); amoadd.d x8, x5, (x9); jal x0, -12: a text of 20 bytes
-    head -c 4096 crates/wfpatch/data/prog.elf >"$folder/prog.elf"
-    for place in 96 104; do
-        printf '\024' | dd of="$folder/prog.elf" bs=1 seek=$place conv=notrunc status=none
-    done
-    printf '\223\004\201\377\057\263\004\020\257\263\124\030\057\264\124\000\157\360\137\377' >>"$folder/prog.elf"
-    ;;
+# addi x1, x1, 1; bne x1, x0, -4; addi x0, x0, 0
+loop) text 014 '\223\200\020\000\343\236\000\376\023\000\000\000' ;;
+# sd x5, -8(x2); ld x6, -8(x2); addi x5, x5, 1; jal x0, -12: x2 is where the stack ends
+memory) text 020 '\043\074\121\376\003\063\201\377\223\202\022\000\157\360\137\377' ;;
+# addi x9, x2, -8; lr.d x6, (x9); sc.d x7, x5, (x9); amoadd.d x8, x5, (x9); jal x0, -12
+atomic) text 024 '\223\004\201\377\057\263\004\020\257\263\124\030\057\264\124\000\157\360\137\377' ;;
 *)
     echo "no program $name" >&2
     exit 1
