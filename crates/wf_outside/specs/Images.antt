@@ -1,9 +1,10 @@
 -- Images and the pages of patches, without where they lie in memory.
-use Rattle.std.specs.Prelude.{◌≡◌, ◌<◌, ◌++◌, ◌/◌, ◌%◌, ℕ, List, All, Contains, map, nat_eq}
+use Rattle.std.specs.Prelude.{◌≡◌, ◌<◌, ◌++◌, ◌%◌, ℕ, List, All, Contains, map, nat_eq}
 use Rattle.std.specs.List.{IsDistinct}
 use Rattle.wf_outside.specs.declared.image.Name.{Name}
 use Rattle.wf_outside.specs.declared.image.Jump.{Jump}
-use Rattle.wf_outside.specs.Pages.{PageValue, DataPageValue}
+use Rattle.wf_outside.specs.declared.sizes.TheConstants.{DATA_END_PAGE}
+use Rattle.wf_outside.specs.Pages.{PageValue, DataPageValue, page_of}
 
 -- what is loaded, as clauses see it: pages of text and of data, and where the first instruction is
 pub record ImageValue : Type 0 where
@@ -13,10 +14,11 @@ pub record ImageValue : Type 0 where
   pub names : List Name
   pub end : ℕ
 
--- the numbers of pages
+-- the numbers of pages of text
 abbrev pub text_numbers : List PageValue → List ℕ
 text_numbers pages = map (λ page. page.number) pages
 
+-- the numbers of pages of data
 abbrev pub data_numbers : List DataPageValue → List ℕ
 data_numbers pages = map (λ page. page.number) pages
 
@@ -25,11 +27,11 @@ pub record IsImage (text : List PageValue) (pages : List DataPageValue) (entry :
   -- no page is there twice
   pub distinct : IsDistinct nat_eq (text_numbers text ++ data_numbers pages)
   -- all lie below the stacks
-  pub text_low : All (λ n. n < 0x3E00000) (text_numbers text)
-  pub data_low : All (λ n. n < 0x3E00000) (data_numbers pages)
+  pub text_low : All (λ n. n < DATA_END_PAGE) (text_numbers text)
+  pub data_low : All (λ n. n < DATA_END_PAGE) (data_numbers pages)
   -- the first instruction is one of text
   pub aligned : entry % 4 ≡ 0
-  pub is_text : Contains (text_numbers text) (entry / 4096)
+  pub is_text : Contains (text_numbers text) (page_of entry)
 
 -- what a patch brings, as clauses see it
 pub record DeltaValue : Type 0 where

@@ -1,3 +1,4 @@
+pub mod Lists
 pub mod Pages
 pub mod Images
 pub mod Files

@@ -8,7 +8,7 @@ use Rattle.wf_outside.specs.declared.status.LimitKind.TheVariants.{File}
 use Rattle.wf_outside.specs.declared.status.Unbuilt.{Unbuilt as UnbuiltPart}
 use Rattle.wf_outside.specs.declared.status.Unbuilt.TheVariants.{Image, Script, Journal, Step}
 
--- the exit status
+-- the exit status of each end of a run
 abbrev pub code_of : Status → ℕ
 code_of Done = 0
 code_of Words = 1
@@ -18,9 +18,11 @@ code_of Memory = 7
 code_of (Limit what number most) = 8
 code_of (Unbuilt what) = 10
 
+-- the word for what has a limit
 abbrev pub limit_text : LimitKind → List ℕ
 limit_text File = codes "file"
 
+-- the words for what is not built: addresses are hexadecimal, lines decimal
 abbrev pub unbuilt_text : UnbuiltPart → List ℕ
 unbuilt_text Image = codes "image"
 unbuilt_text (Script line) = codes "script line " ++ decimal line
@@ -34,5 +36,6 @@ line_of Words = codes "wfpatch: words"
 line_of Shelf = codes "wfpatch: shelf"
 line_of Sink = codes "wfpatch: sink"
 line_of Memory = codes "wfpatch: memory"
-line_of (Limit what number most) = codes "wfpatch: limit " ++ limit_text what ++ codes " " ++ decimal number ++ codes " of " ++ decimal most
+line_of (Limit what number most) =
+    codes "wfpatch: limit " ++ limit_text what ++ codes " " ++ decimal number ++ codes " of " ++ decimal most
 line_of (Unbuilt what) = codes "wfpatch: unbuilt " ++ unbuilt_text what

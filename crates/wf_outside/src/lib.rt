@@ -8,6 +8,7 @@ mod refusal;
 mod rules;
 mod shelf;
 mod sink;
+mod sizes;
 mod status;
 #[cfg(test)]
 mod tests;
@@ -19,5 +20,9 @@ pub use refusal::Refusal;
 pub use rules::{ElfRule, LoadRule};
 pub use shelf::{FsShelf, MemShelf, Shelf, ShelfFault};
 pub use sink::{MemSink, Sink, SinkFault, StdSink};
+pub use sizes::{
+    ADDRESS_PAGES, DATA_END, DATA_END_PAGE, LEAST_FRAMES, MOST_BIRTHS, MOST_FRAMES,
+    MOST_IMAGE_PAGES, MOST_WRITES, PAGE_SIZE, PAGE_WORDS,
+};
 pub use status::{LimitKind, Status, Unbuilt};
 pub use text::Text;
