@@ -37,5 +37,10 @@ line_of Shelf = codes "wfpatch: shelf"
 line_of Sink = codes "wfpatch: sink"
 line_of Memory = codes "wfpatch: memory"
 line_of (Limit what number most) =
-    codes "wfpatch: limit " ++ limit_text what ++ codes " " ++ decimal number ++ codes " of " ++ decimal most
+    codes "wfpatch: limit "
+    ++ limit_text what
+    ++ codes " "
+    ++ decimal number
+    ++ codes " of "
+    ++ decimal most
 line_of (Unbuilt what) = codes "wfpatch: unbuilt " ++ unbuilt_text what

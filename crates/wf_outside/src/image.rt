@@ -54,8 +54,8 @@ pub struct Name {
     pub global: bool,
 }
 
-/// What is loaded: pages of text and of data, each number once and below 0x3E00000, the address of
-/// the first instruction, the names, and the first page after the highest.
+/// What is loaded: pages of text and of data, each number once and below `DATA_END_PAGE`, the
+/// address of the first instruction, the names, and the first page after the highest.
 #[derive(Drop)]
 pub struct Image {
     pub text: Vec<Page>,
@@ -70,7 +70,13 @@ impl Model for Image {
 
     ghost Value = { ImageValue };
 
-    ghost view = { λ i. record { text = i.text.items; pages = i.pages.items; entry = i.entry; names = i.names.items; end = i.end } };
+    ghost view = { λ i. record {
+      text = i.text.items;
+      pages = i.pages.items;
+      entry = i.entry;
+      names = i.names.items;
+      end = i.end;
+    } };
 
     ghost invariant = { λ i. IsImage i.text.items i.pages.items i.entry };
 }
@@ -89,11 +95,16 @@ impl Model for Delta {
 
     ghost Value = { DeltaValue };
 
-    ghost view = { λ d. record { private = d.private.items; shared = d.shared.items; jumps = d.jumps.items } };
+    ghost view = { λ d. record {
+      private = d.private.items;
+      shared = d.shared.items;
+      jumps = d.jumps.items;
+    } };
 }
 
-/// The sizes of a machine: its frames, from 64 to 65,536; the count of writes at which a frame's
-/// count stays, from 1 to 2^39 - 1; and the incarnation at which a frame is worn, from 1 to 2^23 - 1.
+/// The sizes of a machine: its frames, from `LEAST_FRAMES` to `MOST_FRAMES`; the count of writes at
+/// which a frame's count stays, from 1 to `MOST_WRITES`; and the incarnation at which a frame is
+/// worn, from 1 to `MOST_BIRTHS`.
 #[derive(Clone, Copy, Debug, PartialEq, Eq)]
 pub struct Limits {
     pub frames: u32,
@@ -106,9 +117,17 @@ impl Model for Limits {
 
     ghost Value = { LimitsValue };
 
-    ghost view = { λ l. record { frames = l.frames; last_writes = l.last_writes; last_birth = l.last_birth } };
+    ghost view = { λ l. record {
+      frames = l.frames;
+      last_writes = l.last_writes;
+      last_birth = l.last_birth;
+    } };
 
     ghost invariant = { λ l. AreLimits l.frames l.last_writes l.last_birth };
 
-    ghost inverse = { λ l. record { frames = l.frames; last_writes = l.last_writes; last_birth = l.last_birth } };
+    ghost inverse = { λ l. record {
+      frames = l.frames;
+      last_writes = l.last_writes;
+      last_birth = l.last_birth;
+    } };
 }

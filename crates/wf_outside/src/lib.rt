@@ -10,8 +10,6 @@ mod shelf;
 mod sink;
 mod sizes;
 mod status;
-#[cfg(test)]
-mod tests;
 mod text;
 
 pub use image::{DataPage, Delta, Image, Jump, Limits, Name, Page};

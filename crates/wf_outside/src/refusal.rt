@@ -24,6 +24,7 @@ pub enum Refusal {
     Views,
     /// No call has this number.
     Number { n: u64 },
-    /// The generation has only the first `n` patches of the script, and this patch has a greater number.
+    /// The generation has only the first `n` patches of the script, and this patch has a greater
+    /// number.
     Lacks { n: u64 },
 }

@@ -1,8 +1,8 @@
 //! Where files are read from.
-ghost use Rattle.std.specs.Prelude.{◌≡◌, ◌+◌, ◌-◌, ◌^◌, ◌<◌, ◌≤◌, ◌↔◌, ◌⊎◌, List, ℕ, Option, Some, None, min, length, vec_len, Contains, IfOk, IfSome, IsSomeAnd, IsErrOf};
+ghost use Rattle.std.specs.Prelude.{◌≡◌, ◌+◌, ◌<◌, ◌≤◌, ◌↔◌, ◌⊎◌, List, ℕ, Option, Some, None, length, vec_len, Contains, IfOk, IfSome, IsSomeAnd, IsErrOf};
 ghost use Rattle.std.specs.Str.{IsUtf8};
 ghost use Rattle.std.specs.Io.KnownBytes.{Consumes};
-ghost use Rattle.wf_outside.specs.Files.{File, first_bytes, HasRisen, IsReading};
+ghost use Rattle.wf_outside.specs.Files.{File, first_bytes, raised, HasRisen, IsReading};
 ghost use Rattle.wf_outside.specs.MemFiles.{files_of};
 ghost use Rattle.wf_outside.specs.Taking.{TakesAtMost, TakesSome};
 
@@ -12,6 +12,9 @@ use std::io::Read;
 use std::marker::Model;
 use std::rt::Files;
 use std::{fs, str};
+
+// How many bytes of a file are asked for at once.
+const BUFFER_SIZE: usize = 4096;
 
 /// Why nothing was read.
 #[derive(Clone, Copy, Debug, PartialEq, Eq)]
@@ -44,12 +47,15 @@ pub trait Shelf {
     ghost faults: { Self → List ℕ → ℕ };
 
     /// The bytes of the first file of this name, of which there are at most `max`. A file that has
-    /// more is `TooLong`, and `Failed` is counted for the name. A name is bytes, which need not be UTF-8.
+    /// more is `TooLong`, and `Failed` is counted for the name. A name is bytes, which need not be
+    /// UTF-8.
     fn read(&mut self, name: &[u8], max: u64) -> Result<Vec<u8>, ShelfFault>
         ensures holds { holds self.new ≡ holds self.old }
         ensures counts { (other : List ℕ) → faults self.old other ≤ faults self.new other }
-        ensures failed { IsErrOf result ShelfFault.Failed → HasRisen (faults self.old name.now) (faults self.new name.now) }
-        ensures reading { IfSome (holds self.old) (λ files. IsReading (first_bytes name.now files) max result) }
+        ensures failed { IsErrOf result ShelfFault.Failed
+            → HasRisen (faults self.old name.now) (faults self.new name.now) }
+        ensures reading { IfSome (holds self.old)
+            (λ files. IsReading (first_bytes name.now files) max result) }
         ensures too_long { (most : ℕ) → result ≡ Err (ShelfFault.TooLong most) → most ≡ max }
         ensures short { IfOk result (λ bytes. vec_len bytes ≤ max) };
 }
@@ -69,14 +75,24 @@ impl Model for MemShelf {
 
     ghost Value = { MemShelfValue };
 
-    ghost view = { λ s. record { held = files_of s.files.items; fail = s.fail.items; calls = s.calls; faults = s.faults } };
+    ghost view = { λ s. record {
+      held = files_of s.files.items;
+      fail = s.fail.items;
+      calls = s.calls;
+      faults = s.faults;
+    } };
 }
 
 impl MemShelf {
     /// A shelf with these names and the bytes under them, whose reads with these numbers fail. The
     /// first read has number 0.
     pub fn new(alloc: Global, files: Vec<(Text, Vec<u8>)>, fail: Vec<u64>) -> MemShelf
-        ensures { result ≡ record { held = files_of files.items; fail = fail.items; calls = 0; faults = 0 } }
+        ensures { result ≡ record {
+          held = files_of files.items;
+          fail = fail.items;
+          calls = 0;
+          faults = 0;
+        } }
     {
         MemShelf {
             alloc,
@@ -90,8 +106,9 @@ impl MemShelf {
 
 // The first file of that name.
 #[tactic(auto, using(crate::proofs::ShelfLemmas::first_file))]
-fn first_of<'a>(files: &'a [(Text, Vec<u8>)], name: &[u8]) -> Option<&'a [u8]>
-    ensures found { IfSome result (λ bytes. first_bytes name.now (files_of files.now) ≡ Some bytes.now) }
+fn find_file<'a>(files: &'a [(Text, Vec<u8>)], name: &[u8]) -> Option<&'a [u8]>
+    ensures found { IfSome result
+        (λ bytes. first_bytes name.now (files_of files.now) ≡ Some bytes.now) }
     ensures none { result ≡ None → first_bytes name.now (files_of files.now) ≡ None }
 {
     for file in files {
@@ -114,24 +131,30 @@ impl Shelf for MemShelf {
     fn read(&mut self, name: &[u8], max: u64) -> Result<Vec<u8>, ShelfFault>
         ensures holds { Some self.new.held ≡ Some self.old.held }
         ensures counts { (other : List ℕ) → self.old.faults ≤ self.new.faults }
-        ensures failed { IsErrOf result ShelfFault.Failed → HasRisen self.old.faults self.new.faults }
+        ensures failed { IsErrOf result ShelfFault.Failed
+            → HasRisen self.old.faults self.new.faults }
         ensures reading { IsReading (first_bytes name.now self.old.held) max result }
         ensures too_long { (most : ℕ) → result ≡ Err (ShelfFault.TooLong most) → most ≡ max }
         ensures short { IfOk result (λ bytes. vec_len bytes ≤ max) }
 
         // When each answer comes.
         ensures fails { IsErrOf result ShelfFault.Failed
-            ↔ (Contains self.old.fail self.old.calls ⊎ (first_bytes name.now self.old.held ≡ None)) }
+            ↔ (Contains self.old.fail self.old.calls
+            ⊎ (first_bytes name.now self.old.held ≡ None)) }
         ensures long { IsErrOf result (ShelfFault.TooLong max)
-            ↔ (¬ (Contains self.old.fail self.old.calls) × IsSomeAnd (first_bytes name.now self.old.held) (λ bytes. max < length bytes)) }
-        ensures bytes { IfOk result (λ bytes. first_bytes name.now self.old.held ≡ Some bytes.items) }
+            ↔ (¬ (Contains self.old.fail self.old.calls)
+            × IsSomeAnd (first_bytes name.now self.old.held) (λ bytes. max < length bytes)) }
+        ensures bytes { IfOk result
+            (λ bytes. first_bytes name.now self.old.held ≡ Some bytes.items) }
 
         // What the shelf is then.
         ensures held { self.new.held ≡ self.old.held }
         ensures numbers { self.new.fail ≡ self.old.fail }
-        ensures calls { self.new.calls ≡ min (self.old.calls + 1) (2 ^ 64 - 1) }
-        ensures counted { IsErrOf result ShelfFault.Failed → self.new.faults ≡ min (self.old.faults + 1) (2 ^ 64 - 1) }
-        ensures uncounted { ¬ (IsErrOf result ShelfFault.Failed) → self.new.faults ≡ self.old.faults }
+        ensures calls { self.new.calls ≡ raised self.old.calls }
+        ensures counted { IsErrOf result ShelfFault.Failed
+            → self.new.faults ≡ raised self.old.faults }
+        ensures uncounted { ¬ (IsErrOf result ShelfFault.Failed)
+            → self.new.faults ≡ self.old.faults }
     {
         let number = self.calls;
         self.calls = number.saturating_add(1);
@@ -139,7 +162,7 @@ impl Shelf for MemShelf {
             self.faults = self.faults.saturating_add(1);
             return Err(ShelfFault::Failed);
         }
-        let Some(bytes) = first_of(&self.files, name) else {
+        let Some(bytes) = find_file(&self.files, name) else {
             self.faults = self.faults.saturating_add(1);
             return Err(ShelfFault::Failed);
         };
@@ -190,7 +213,8 @@ fn take_some<F: Read>(
     bytes: &mut Vec<u8>,
 ) -> Result<usize, ShelfFault>
     requires { 0 < length buffer.old }
-    ensures ok { IfOk result (λ n. TakesSome (F.remaining file.old) (F.remaining file.new) bytes.old.items bytes.new.items n) }
+    ensures ok { IfOk result (λ n. TakesSome (F.remaining file.old) (F.remaining file.new)
+        bytes.old.items bytes.new.items n) }
     ensures count { IfOk result (λ n. n ≤ room + 1) }
     ensures at_most { TakesAtMost (F.remaining file.old) (F.remaining file.new) (room + 1) }
     ensures faults { (most : ℕ) → result ≡ Err (ShelfFault.TooLong most) → ⊥ }
@@ -213,13 +237,15 @@ fn take_some<F: Read>(
 // The bytes of a reader up to its end, of which at most `max + 1` are taken. An interrupted read
 // has failed.
 fn read_up_to<F: Read>(alloc: Global, file: &mut F, max: u64) -> Result<Vec<u8>, ShelfFault>
-    ensures taken { IfOk result (λ bytes. Consumes (F.remaining file.old) (F.remaining file.new) bytes.items) }
+    ensures taken { IfOk result
+        (λ bytes. Consumes (F.remaining file.old) (F.remaining file.new) bytes.items) }
     ensures few { IfOk result (λ bytes. length bytes.items ≤ max + 1) }
-    ensures whole { IfOk result (λ bytes. length bytes.items ≤ max → IfSome (F.remaining file.old) (λ rest. bytes.items ≡ rest)) }
+    ensures whole { IfOk result (λ bytes. length bytes.items ≤ max
+        → IfSome (F.remaining file.old) (λ rest. bytes.items ≡ rest)) }
     ensures at_most { TakesAtMost (F.remaining file.old) (F.remaining file.new) (max + 1) }
     ensures faults { (most : ℕ) → result ≡ Err (ShelfFault.TooLong most) → ⊥ }
 {
-    let mut buffer = [0; 4096];
+    let mut buffer = [0; BUFFER_SIZE];
     let mut bytes = Vec::new(alloc);
     while bytes.len() as u64 <= max {
         let room = max - bytes.len() as u64;
@@ -275,7 +301,7 @@ impl<'a, R: Files> Shelf for FsShelf<'a, R> {
 
         // A name must be UTF-8, and just what failed is counted.
         ensures text { ¬ (IsUtf8 name.now) → IsErrOf result ShelfFault.Failed }
-        ensures counted { IsErrOf result ShelfFault.Failed → self.new ≡ min (self.old + 1) (2 ^ 64 - 1) }
+        ensures counted { IsErrOf result ShelfFault.Failed → self.new ≡ raised self.old }
         ensures uncounted { ¬ (IsErrOf result ShelfFault.Failed) → self.new ≡ self.old }
     {
         let result = read_file(self.rt, self.alloc, name, max);

@@ -1,6 +1,6 @@
 //! Where output is put.
-ghost use Rattle.std.specs.Prelude.{◌≡◌, ◌+◌, ◌-◌, ◌/◌, ◌^◌, ◌≤◌, ◌++◌, [], List, ℕ, Option, Some, None, min, take, length, Contains, OnOk, IsErrOf};
-ghost use Rattle.wf_outside.specs.Files.{HasRisen};
+ghost use Rattle.std.specs.Prelude.{◌≡◌, ◌/◌, ◌≤◌, ◌++◌, [], List, ℕ, Option, Some, None, take, length, Contains, OnOk, IsErrOf};
+ghost use Rattle.wf_outside.specs.Files.{raised, HasRisen};
 ghost use Rattle.wf_outside.specs.Puts.{Appends, AppendsPrefix};
 
 use std::alloc::{AllocError, Global};
@@ -40,7 +40,8 @@ pub trait Sink {
         ensures prefix { AppendsPrefix (got self.old) (got self.new) bytes.now }
         ensures memory { IsErrOf result SinkFault.Memory → got self.new ≡ got self.old }
         ensures count { faults self.old ≤ faults self.new }
-        ensures failed { IsErrOf result SinkFault.Failed → HasRisen (faults self.old) (faults self.new) };
+        ensures failed { IsErrOf result SinkFault.Failed
+            → HasRisen (faults self.old) (faults self.new) };
 }
 
 /// Keeps what it is given.
@@ -57,7 +58,12 @@ impl Model for MemSink {
 
     ghost Value = { MemSinkValue };
 
-    ghost view = { λ s. record { got = s.got.items; fail = s.fail.items; calls = s.calls; faults = s.faults } };
+    ghost view = { λ s. record {
+      got = s.got.items;
+      fail = s.fail.items;
+      calls = s.calls;
+      faults = s.faults;
+    } };
 }
 
 impl MemSink {
@@ -95,18 +101,22 @@ impl Sink for MemSink {
         ensures prefix { AppendsPrefix (Some self.old.got) (Some self.new.got) bytes.now }
         ensures memory { IsErrOf result SinkFault.Memory → Some self.new.got ≡ Some self.old.got }
         ensures count { self.old.faults ≤ self.new.faults }
-        ensures failed { IsErrOf result SinkFault.Failed → HasRisen self.old.faults self.new.faults }
+        ensures failed { IsErrOf result SinkFault.Failed
+            → HasRisen self.old.faults self.new.faults }
 
         // When each answer comes, and what is taken where it fails.
         ensures fails { IsErrOf result SinkFault.Failed → Contains self.old.fail self.old.calls }
         ensures passes { OnOk result (¬ (Contains self.old.fail self.old.calls)) }
-        ensures half { IsErrOf result SinkFault.Failed → self.new.got ≡ self.old.got ++ take (length bytes.now / 2) bytes.now }
+        ensures half { IsErrOf result SinkFault.Failed
+            → self.new.got ≡ self.old.got ++ take (length bytes.now / 2) bytes.now }
 
         // What the sink is then.
         ensures numbers { self.new.fail ≡ self.old.fail }
-        ensures calls { self.new.calls ≡ min (self.old.calls + 1) (2 ^ 64 - 1) }
-        ensures counted { IsErrOf result SinkFault.Failed → self.new.faults ≡ min (self.old.faults + 1) (2 ^ 64 - 1) }
-        ensures uncounted { ¬ (IsErrOf result SinkFault.Failed) → self.new.faults ≡ self.old.faults }
+        ensures calls { self.new.calls ≡ raised self.old.calls }
+        ensures counted { IsErrOf result SinkFault.Failed
+            → self.new.faults ≡ raised self.old.faults }
+        ensures uncounted { ¬ (IsErrOf result SinkFault.Failed)
+            → self.new.faults ≡ self.old.faults }
     {
         let number = self.calls;
         self.calls = number.saturating_add(1);
@@ -160,7 +170,7 @@ impl<'a, R: Print> Sink for StdSink<'a, R> {
         ensures failed { IsErrOf result SinkFault.Failed → HasRisen self.old self.new }
 
         // Just what failed is counted.
-        ensures counted { IsErrOf result SinkFault.Failed → self.new ≡ min (self.old + 1) (2 ^ 64 - 1) }
+        ensures counted { IsErrOf result SinkFault.Failed → self.new ≡ raised self.old }
         ensures uncounted { OnOk result (self.new ≡ self.old) }
     {
         if self.rt.write_all(bytes).is_err() {
