@@ -1,3 +1,4 @@
+pub mod RisingLemmas
 pub mod ShelfLemmas
 pub mod SinkLemmas
 pub mod TakingLemmas
