@@ -1,6 +1,7 @@
 -- What the operations and the conditions give of two registers, as whole numbers below 2 ^ 64.
--- RISC-V unprivileged ISA, "RV32I Base Integer Instruction Set", "RV64I Base Integer Instruction Set",
--- "M" Extension for Integer Multiplication and Division, and "A" Extension for Atomic Instructions.
+-- RISC-V unprivileged ISA, "RV32I Base Integer Instruction Set", "RV64I Base Integer Instruction
+-- Set", "M" Extension for Integer Multiplication and Division, and "A" Extension for Atomic
+-- Instructions.
 use Rattle.std.specs.Prelude.{ℕ, ◌+◌, ◌-◌, ◌*◌, ◌/◌, ◌%◌, ◌^◌, ◌==◌, ℤ, pos, neg_ℤ, ◌-ℤ◌, ◌*ℤ◌, Bool, not, min, max, if◌then◌else◌, nat_lt, nat_le, int_lt, int_le, int_div, int_rem, unsigned_abs, bit_and, bit_or, bit_xor}
 use Rattle.std.specs.Int.{int_div_euclid, int_rem_euclid}
 use Rattle.rv_alu.specs.declared.op.AluOp.{AluOp}
@@ -38,24 +39,28 @@ one_if test = if test then 1 else 0
 abbrev pub signed_word : ℕ → ℤ
 signed_word n = signed 32 (low_word n)
 
--- "Division Operations", with its table of division by zero and overflow. By zero the quotient has all bits
--- set and the remainder is the dividend. Else a signed quotient is rounded towards zero, and the remainder
--- has the sign of the dividend. Of the least number and -1 the quotient is one too great, which the low bits
--- alone make the least number again, and the remainder is 0
+-- Division follows "Division Operations", with its table of division by zero and overflow. Of the
+-- least number and -1 the quotient is one too great, which the low bits alone make the least number
+-- again, and the remainder is 0.
+
+-- a signed quotient: rounded towards zero, and all bits set where the divisor is 0
 abbrev pub signed_quotient : ℤ → ℤ → ℤ
 signed_quotient a b = if unsigned_abs b == 0 then neg_ℤ (pos 1) else int_div a b
 
+-- a signed remainder: it has the sign of the dividend, and is the dividend where the divisor is 0
 abbrev pub signed_remainder : ℤ → ℤ → ℤ
 signed_remainder a b = if unsigned_abs b == 0 then a else int_rem a b
 
--- the same of unsigned numbers, the quotient of so many bits
+-- an unsigned quotient of so many bits: rounded down, and all bits set where the divisor is 0
 abbrev pub unsigned_quotient : ℕ → ℕ → ℕ → ℕ
 unsigned_quotient bits a b = if b == 0 then 2 ^ bits - 1 else a / b
 
+-- an unsigned remainder: it is the dividend where the divisor is 0
 abbrev pub unsigned_remainder : ℕ → ℕ → ℕ
 unsigned_remainder a b = if b == 0 then a else a % b
 
--- "Integer Computational Instructions", "Multiplication Operations", "Division Operations": the result
+-- what an operation gives of two registers ("Integer Computational Instructions", "Multiplication
+-- Operations", "Division Operations")
 abbrev pub alu_of : AluOp → ℕ → ℕ → ℕ
 alu_of Add a b = (a + b) % 2 ^ 64
 alu_of Sub a b = (a + 2 ^ 64 - b) % 2 ^ 64
@@ -87,8 +92,8 @@ alu_of Divuw a b = extended (unsigned_quotient 32 (low_word a) (low_word b))
 alu_of Remw a b = extended (wrapped (signed_remainder (signed_word a) (signed_word b)))
 alu_of Remuw a b = extended (unsigned_remainder (low_word a) (low_word b))
 
--- "Atomic Memory Operations": what is made of the old number in memory and that of the register, both of
--- so many bits
+-- what an atomic memory operation writes of the old number in memory and that of the register, both
+-- of so many bits ("Atomic Memory Operations")
 abbrev pub amo_in : AmoOp → ℕ → ℕ → ℕ → ℕ
 amo_in amo.Swap bits old b = b
 amo_in amo.Add bits old b = (old + b) % 2 ^ bits
@@ -100,11 +105,11 @@ amo_in amo.Max bits old b = if int_le (signed bits old) (signed bits b) then b e
 amo_in amo.Minu bits old b = min old b
 amo_in amo.Maxu bits old b = max old b
 
--- on 64 bits, or on the low 32 bits of both
+-- what it writes where it is of 64 bits, or of the low 32 bits of both
 abbrev pub amo_of : AmoOp → Bool → ℕ → ℕ → ℕ
 amo_of op wide old b = if wide then amo_in op 64 old b else amo_in op 32 (low_word old) (low_word b)
 
--- "Conditional Branches": whether the branch is taken
+-- whether a branch on the condition is taken ("Conditional Branches")
 abbrev pub taken_of : Cond → ℕ → ℕ → Bool
 taken_of Equal a b = a == b
 taken_of NotEqual a b = not (a == b)

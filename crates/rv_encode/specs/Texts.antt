@@ -1,5 +1,6 @@
 -- The text of an instruction: its mnemonic, a space, and its operands joined by a comma and a space
--- (RISC-V unprivileged ISA, "RV32/64G Instruction Set Listings" and "RISC-V Assembly Programmer's Handbook").
+-- (RISC-V unprivileged ISA, "RV32/64G Instruction Set Listings" and "RISC-V Assembly Programmer's
+-- Handbook").
 use Rattle.std.specs.Prelude.{ℕ, ℤ, ◌/◌, ◌^◌, ◌==◌, List, [], ◌∷◌, ◌++◌, Bool, true, false, codes, if◌then◌else◌}
 use Rattle.std.specs.Fmt.{decimal, signed_decimal}
 use Rattle.rv_alu.specs.declared.op.AluOp.{AluOp}
@@ -12,6 +13,7 @@ use Rattle.rv_inst.specs.declared.inst.Inst.{Inst}
 use Rattle.rv_inst.specs.declared.inst.Inst.TheVariants.{Lui, Auipc, Jal, Jalr, Branch, Load, Store, AluImm, Alu, Amo, Lr, Sc, Fence, FenceI, Ecall, Ebreak}
 use Rattle.rv_inst.specs.Spelling.{low_bits}
 
+-- the mnemonic of a branch
 abbrev pub branch_name : Cond → List ℕ
 branch_name Equal = codes "beq"
 branch_name NotEqual = codes "bne"
@@ -20,7 +22,7 @@ branch_name GreaterOrEqual = codes "bge"
 branch_name LessUnsigned = codes "bltu"
 branch_name GreaterOrEqualUnsigned = codes "bgeu"
 
--- by the width in bytes
+-- the letter of a load or a store of so many bytes
 abbrev pub width_letter : ℕ → List ℕ
 width_letter width =
     if width == 1 then codes "b"
@@ -29,13 +31,16 @@ width_letter width =
     else if width == 8 then codes "d"
     else []
 
+-- the mnemonic of a load of so many bytes, sign-extended or not
 abbrev pub load_name : ℕ → Bool → List ℕ
 load_name width true = codes "l" ++ width_letter width
 load_name width false = codes "l" ++ width_letter width ++ codes "u"
 
+-- the mnemonic of a store of so many bytes
 abbrev pub store_name : ℕ → List ℕ
 store_name width = codes "s" ++ width_letter width
 
+-- the mnemonic of an operation on two registers
 abbrev pub alu_name : AluOp → List ℕ
 alu_name Add = codes "add"
 alu_name Sub = codes "sub"
@@ -66,7 +71,7 @@ alu_name Divuw = codes "divuw"
 alu_name Remw = codes "remw"
 alu_name Remuw = codes "remuw"
 
--- of those that have a form with an immediate
+-- the mnemonic of an operation on a register and an immediate, where there is one
 abbrev pub imm_name : AluOp → List ℕ
 imm_name Add = codes "addi"
 imm_name Sll = codes "slli"
@@ -83,6 +88,7 @@ imm_name Srlw = codes "srliw"
 imm_name Sraw = codes "sraiw"
 imm_name op = []
 
+-- the name of an atomic memory operation, without its width and order
 abbrev pub amo_name : AmoOp → List ℕ
 amo_name amo.Swap = codes "amoswap"
 amo_name amo.Add = codes "amoadd"
@@ -94,54 +100,59 @@ amo_name amo.Max = codes "amomax"
 amo_name amo.Minu = codes "amominu"
 amo_name amo.Maxu = codes "amomaxu"
 
--- what an atomic instruction adds to its name: its width, and its order if it has one
+-- the order of an atomic instruction, as its name has it
 abbrev pub order_suffix : Bool → Bool → List ℕ
 order_suffix false false = []
 order_suffix true false = codes ".aq"
 order_suffix false true = codes ".rl"
 order_suffix true true = codes ".aqrl"
 
+-- what an atomic instruction adds to its name: its width, and its order if it has one
 abbrev pub atomic_suffix : Bool → Bool → Bool → List ℕ
 atomic_suffix wide aq rl = (if wide then codes ".d" else codes ".w") ++ order_suffix aq rl
 
--- operands
-abbrev pub register : ℕ → List ℕ
-register r = codes "x" ++ decimal r
+-- a register, as `x5`
+abbrev pub register_name : ℕ → List ℕ
+register_name r = codes "x" ++ decimal r
 
--- bits 31 to 12, as an unsigned number
+-- the immediate of `lui` and `auipc`: its bits 31 to 12, as an unsigned number
 abbrev pub upper : ℤ → List ℕ
 upper imm = decimal (low_bits 32 imm / 2 ^ 12)
 
+-- the address in a register, as `(x5)`
 abbrev pub address : ℕ → List ℕ
-address r = codes "(" ++ register r ++ codes ")"
+address r = codes "(" ++ register_name r ++ codes ")"
 
--- an offset from the address in a register
+-- an offset from the address in a register, as `8(x5)`
 abbrev pub indexed : ℤ → ℕ → List ℕ
 indexed off r = signed_decimal off ++ address r
 
+-- operands, a comma and a space between each two
 abbrev pub joined : List (List ℕ) → List ℕ
 joined [] = []
 joined (operand ∷ []) = operand
 joined (operand ∷ next ∷ rest) = operand ++ codes ", " ++ joined (next ∷ rest)
 
+-- a mnemonic, a space and the operands
 abbrev pub line : List ℕ → List (List ℕ) → List ℕ
 line name operands = name ++ codes " " ++ joined operands
 
--- a store, an sc and an atomic memory operation name rs2 before the address
-abbrev pub text_of : Inst → List ℕ
-text_of (Lui rd imm) = line (codes "lui") (register rd ∷ upper imm ∷ [])
-text_of (Auipc rd imm) = line (codes "auipc") (register rd ∷ upper imm ∷ [])
-text_of (Jal rd off) = line (codes "jal") (register rd ∷ signed_decimal off ∷ [])
-text_of (Jalr rd rs1 off) = line (codes "jalr") (register rd ∷ indexed off rs1 ∷ [])
-text_of (Branch cond rs1 rs2 off) = line (branch_name cond) (register rs1 ∷ register rs2 ∷ signed_decimal off ∷ [])
-text_of (Load width signed rd rs1 off) = line (load_name width signed) (register rd ∷ indexed off rs1 ∷ [])
-text_of (Store width rs1 rs2 off) = line (store_name width) (register rs2 ∷ indexed off rs1 ∷ [])
-text_of (AluImm op rd rs1 imm) = line (imm_name op) (register rd ∷ register rs1 ∷ signed_decimal imm ∷ [])
-text_of (Alu op rd rs1 rs2) = line (alu_name op) (register rd ∷ register rs1 ∷ register rs2 ∷ [])
-text_of (Amo op wide aq rl rd rs1 rs2) = line (amo_name op ++ atomic_suffix wide aq rl) (register rd ∷ register rs2 ∷ address rs1 ∷ [])
-text_of (Lr wide aq rl rd rs1) = line (codes "lr" ++ atomic_suffix wide aq rl) (register rd ∷ address rs1 ∷ [])
-text_of (Sc wide aq rl rd rs1 rs2) = line (codes "sc" ++ atomic_suffix wide aq rl) (register rd ∷ register rs2 ∷ address rs1 ∷ [])
-text_of (Fence raw) = codes "fence"
-text_of (FenceI raw) = codes "fence.i"
-text_of Ecall = codes "ecall"
-text_of Ebreak = codes "ebreak"
+-- the text of an instruction: a store, an sc and an atomic memory operation name rs2 before the
+-- address
+abbrev pub inst_text : Inst → List ℕ
+inst_text (Lui rd imm) = line (codes "lui") (register_name rd ∷ upper imm ∷ [])
+inst_text (Auipc rd imm) = line (codes "auipc") (register_name rd ∷ upper imm ∷ [])
+inst_text (Jal rd off) = line (codes "jal") (register_name rd ∷ signed_decimal off ∷ [])
+inst_text (Jalr rd rs1 off) = line (codes "jalr") (register_name rd ∷ indexed off rs1 ∷ [])
+inst_text (Branch cond rs1 rs2 off) = line (branch_name cond) (register_name rs1 ∷ register_name rs2 ∷ signed_decimal off ∷ [])
+inst_text (Load width signed rd rs1 off) = line (load_name width signed) (register_name rd ∷ indexed off rs1 ∷ [])
+inst_text (Store width rs1 rs2 off) = line (store_name width) (register_name rs2 ∷ indexed off rs1 ∷ [])
+inst_text (AluImm op rd rs1 imm) = line (imm_name op) (register_name rd ∷ register_name rs1 ∷ signed_decimal imm ∷ [])
+inst_text (Alu op rd rs1 rs2) = line (alu_name op) (register_name rd ∷ register_name rs1 ∷ register_name rs2 ∷ [])
+inst_text (Amo op wide aq rl rd rs1 rs2) = line (amo_name op ++ atomic_suffix wide aq rl) (register_name rd ∷ register_name rs2 ∷ address rs1 ∷ [])
+inst_text (Lr wide aq rl rd rs1) = line (codes "lr" ++ atomic_suffix wide aq rl) (register_name rd ∷ address rs1 ∷ [])
+inst_text (Sc wide aq rl rd rs1 rs2) = line (codes "sc" ++ atomic_suffix wide aq rl) (register_name rd ∷ register_name rs2 ∷ address rs1 ∷ [])
+inst_text (Fence raw) = codes "fence"
+inst_text (FenceI raw) = codes "fence.i"
+inst_text Ecall = codes "ecall"
+inst_text Ebreak = codes "ebreak"

@@ -1,12 +1,12 @@
 //! The words of the formats, where the fields are in range.
 //!
 //! RISC-V unprivileged ISA, "Base Instruction Formats" and "Immediate Encoding Variants".
-ghost use Rattle.std.specs.Prelude.{◌≡◌, ◌+◌, ◌*◌, ◌<◌, ◌≤◌, ◌^◌, unsigned_abs};
+ghost use Rattle.std.specs.Prelude.{◌≡◌, ◌+◌, ◌*◌, ◌<◌, ◌^◌, unsigned_abs};
 ghost use Rattle.std.specs.Option.{SomeIff};
-ghost use Rattle.rv_inst.specs.Fields as fields;
 ghost use Rattle.rv_inst.specs.Spelling.{IsRegister, IsNumber, IsMultiple, IsAmount, low_bits, word_r, word_i, word_s, word_b, word_u, word_j};
 
 use crate::ranges::{amount, multiple, number, register};
+use rv_inst::bits;
 
 /// Format R: three registers.
 pub fn format_r(opcode: u32, funct3: u32, funct7: u32, rd: u8, rs1: u8, rs2: u8) -> Option<u32>
@@ -98,12 +98,4 @@ pub fn format_j(opcode: u32, rd: u8, off: i64) -> Option<u32>
     let high = (bits(off, 20, 20) << 31) + (bits(off, 10, 1) << 21);
     let low = (bits(off, 11, 11) << 20) + (bits(off, 19, 12) << 12);
     Some(high + low + (rd << 7) + opcode)
-}
-
-// The bits from the highest down to the lowest.
-fn bits(n: u32, high: u32, low: u32) -> u32
-    requires { (low ≤ high) × (high < 32) × (high < low + 31) }
-    ensures { result ≡ fields.bits high low n }
-{
-    (n >> low) % (1 << (high + 1 - low))
 }

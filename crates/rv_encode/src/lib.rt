@@ -6,8 +6,6 @@ mod encoding;
 mod formats;
 mod jumping;
 mod ranges;
-#[cfg(test)]
-mod tests;
 mod texts;
 
 pub use encoding::encode;

@@ -15,7 +15,7 @@ use wf_outside::{Memory, Text};
 /// RISC-V unprivileged ISA, "RISC-V Assembly Programmer's Handbook".
 pub fn dis(alloc: Global, inst: Inst) -> Result<Text, Memory>
     requires { IsSpelled inst }
-    ensures { IfOk result (λ text. text ≡ texts.text_of inst) }
+    ensures { IfOk result (λ text. text ≡ texts.inst_text inst) }
 {
     let line = format!(in alloc; "{}", InstText(inst))?;
     Ok(Text::from(line.into_bytes()))
@@ -49,7 +49,7 @@ impl fmt::Display for AtomicSuffix {
 struct InstText(Inst);
 
 impl fmt::Display for InstText {
-    ghost output = { λ x. Some (texts.text_of x.0) };
+    ghost output = { λ x. Some (texts.inst_text x.0) };
 
     fn fmt<W: fmt::Write>(&self, f: &mut fmt::Formatter<W>) -> fmt::Result {
         match self.0 {

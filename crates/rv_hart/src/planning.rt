@@ -1,11 +1,15 @@
 //! What an instruction wants.
-ghost use Rattle.std.specs.Prelude.{◌≡◌, ◌<◌};
+ghost use Rattle.std.specs.Prelude.{◌≡◌};
+ghost use Rattle.rv_inst.specs.Rows.{IsWidth};
 ghost use Rattle.rv_inst.specs.Spelling.{IsSpelled};
 ghost use Rattle.rv_inst.specs.Meanings as meanings;
 ghost use Rattle.rv_inst.specs.Meanings.{want_of, to_jump, aligned};
 
 use rv_alu::taken;
-use rv_inst::{Arch, Inst, Want};
+use rv_inst::causes::{
+    BREAKPOINT, INSTRUCTION_ADDRESS_MISALIGNED, LOAD_ADDRESS_MISALIGNED, STORE_ADDRESS_MISALIGNED,
+};
+use rv_inst::{Arch, Inst, Want, accesses_have_widths};
 
 /// What the instruction wants of memory or of the kernel, asked before it does anything.
 ///
@@ -14,11 +18,11 @@ use rv_inst::{Arch, Inst, Want};
 ///
 /// RISC-V unprivileged ISA, "RV64I Base Integer Instruction Set" and "A" Extension for Atomic
 /// Instructions; privileged ISA, "Machine Cause Register".
-#[tactic(auto, using(crate::proofs::WidthLemmas::widths))]
 pub fn plan(arch: &Arch, inst: Inst) -> Want
     requires { IsSpelled inst }
     ensures { result ≡ want_of inst arch.now }
 {
+    accesses_have_widths();
     match inst {
         Inst::Jal { off, .. } => jump(at_offset(arch.pc, off)),
         Inst::Jalr { rs1, off, .. } => jump(jalr_target(arch.x[rs1 as usize], off)),
@@ -41,7 +45,7 @@ pub fn plan(arch: &Arch, inst: Inst) -> Want
             ..
         } => {
             let va = at_offset(arch.x[rs1 as usize], off);
-            unless_misaligned(va, width, 4, Want::Look { va, width })
+            unless_misaligned(va, width, LOAD_ADDRESS_MISALIGNED, Want::Look { va, width })
         }
         Inst::Store {
             width,
@@ -51,7 +55,12 @@ pub fn plan(arch: &Arch, inst: Inst) -> Want
         } => {
             let va = at_offset(arch.x[rs1 as usize], off);
             let value = arch.x[rs2 as usize];
-            unless_misaligned(va, width, 6, Want::Put { va, width, value })
+            unless_misaligned(
+                va,
+                width,
+                STORE_ADDRESS_MISALIGNED,
+                Want::Put { va, width, value },
+            )
         }
         Inst::Amo {
             op,
@@ -66,7 +75,7 @@ pub fn plan(arch: &Arch, inst: Inst) -> Want
             unless_misaligned(
                 va,
                 width,
-                6,
+                STORE_ADDRESS_MISALIGNED,
                 Want::Swap {
                     va,
                     width,
@@ -78,20 +87,30 @@ pub fn plan(arch: &Arch, inst: Inst) -> Want
         Inst::Lr { wide, rs1, .. } => {
             let va = arch.x[rs1 as usize];
             let width = atomic_width(wide);
-            unless_misaligned(va, width, 4, Want::Reserve { va, width })
+            unless_misaligned(
+                va,
+                width,
+                LOAD_ADDRESS_MISALIGNED,
+                Want::Reserve { va, width },
+            )
         }
         Inst::Sc { wide, rs1, rs2, .. } => {
             let va = arch.x[rs1 as usize];
             let width = atomic_width(wide);
             let value = arch.x[rs2 as usize];
-            unless_misaligned(va, width, 6, Want::PutIf { va, width, value })
+            unless_misaligned(
+                va,
+                width,
+                STORE_ADDRESS_MISALIGNED,
+                Want::PutIf { va, width, value },
+            )
         }
         Inst::Lui { .. } | Inst::Auipc { .. } => Want::Nothing,
         Inst::AluImm { .. } | Inst::Alu { .. } => Want::Nothing,
         Inst::Fence { .. } | Inst::FenceI { .. } => Want::Nothing,
         Inst::Ecall => Want::Call,
         Inst::Ebreak => Want::Trap {
-            cause: 3,
+            cause: BREAKPOINT,
             value: arch.pc,
         },
     }
@@ -127,7 +146,7 @@ fn jump(target: u64) -> Want
         Want::Nothing
     } else {
         Want::Trap {
-            cause: 0,
+            cause: INSTRUCTION_ADDRESS_MISALIGNED,
             value: target,
         }
     }
@@ -135,7 +154,7 @@ fn jump(target: u64) -> Want
 
 // What an access wants, or its trap.
 fn unless_misaligned(va: u64, width: u8, cause: u8, want: Want) -> Want
-    requires { 0 < width }
+    requires { IsWidth width }
     ensures { result ≡ aligned va width cause want }
 {
     if va % u64::from(width) == 0 {

@@ -2,3 +2,4 @@ pub mod RowLemmas
 pub mod RangeLemmas
 pub mod FormatLemmas
 pub mod SpellingLemmas
+pub mod WidthLemmas

@@ -13,7 +13,7 @@ use Rattle.rv_inst.specs.declared.inst.Inst.{Inst}
 use Rattle.rv_inst.specs.declared.inst.Inst.TheVariants.{Lui, Auipc, Jal, Jalr, Branch, Load, Store, AluImm, Alu, Amo, Lr, Sc, Fence, FenceI, Ecall, Ebreak}
 use Rattle.rv_inst.specs.Fields.{opcode, rd_in, funct3, rs1_in, rs2_in, funct7, funct6, funct5, aq_in, rl_in, imm_i, imm_s, imm_b, imm_u, imm_j, amount_64, amount_32}
 use Rattle.rv_inst.specs.Rows.{IsRow, branch_code, load_code, store_code, amo_code, alu_codes, HasCodes, wide_code}
-use Rattle.rv_inst.specs.Decoding.{inst_of, inst_by, jalr_of, cond_at, branch_of, load_of, store_of, imm_of, imm_word_of, base_at, other_at, product_at, base_word_at, other_word_at, product_word_at, op_at, op_word_at, alu_with, fence_of, system_of, amo_at, amo_of, atomic_with, atomic_of}
+use Rattle.rv_inst.specs.Decoding.{inst_of, inst_by, jalr_of, cond_at, branch_of, load_of, store_of, imm_of, imm_word_of, base_at, other_at, product_at, base_word_at, other_word_at, product_word_at, op_at, op_word_at, alu_with, fence_of, system_of, amo_at, amo_inst_of, atomic_with, atomic_of}
 
 -- what a test says
 is_equal : (a b : ℕ) → (a == b) ≡ true → a ≡ b
@@ -149,7 +149,7 @@ atomic_with_row word wide inst h f =
     (λ t. as_row word (Sc wide (aq_in word) (rl_in word) (rd_in word) (rs1_in word) (rs2_in word)) inst ((h, f, is_equal _ _ t, refl, refl), refl, refl, refl))
     (λ _ e. amo_row e))
   where
-    amo_row : amo_of word wide ≡ Some inst → IsRow word inst
+    amo_row : amo_inst_of word wide ≡ Some inst → IsRow word inst
     amo_row e =
         let w = from_map (λ (op : AmoOp). Amo op wide (aq_in word) (rl_in word) (rd_in word) (rs1_in word) (rs2_in word)) (amo_at (funct5 word)) inst e in
         subst (IsRow word) w.2 ((h, f, amo_is (funct5 word) w.0 w.1, refl, refl), refl, refl, refl)

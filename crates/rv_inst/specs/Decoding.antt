@@ -1,5 +1,5 @@
--- The instruction of a word, if it is one: the table of rows read from the word's side, field by field.
--- That it is the same table is a law (`words_are_rows`).
+-- The instruction of a word, if it is one: the table of rows read from the word's side, field by
+-- field. That it is the same table is a law (`words_are_rows`).
 use Rattle.std.specs.Prelude.{◌==◌, ℕ, ℤ, pos, Bool, true, false, Option, Some, None, if◌then◌else◌}
 use Rattle.std.specs.Option.{option_map}
 use Rattle.rv_alu.specs.declared.op.AluOp.{AluOp}
@@ -12,9 +12,11 @@ use Rattle.rv_inst.specs.declared.inst.Inst.{Inst}
 use Rattle.rv_inst.specs.declared.inst.Inst.TheVariants.{Lui, Auipc, Jal, Jalr, Branch, Load, Store, AluImm, Alu, Amo, Lr, Sc, Fence, FenceI, Ecall, Ebreak}
 use Rattle.rv_inst.specs.Fields.{opcode, rd_in, funct3, rs1_in, rs2_in, funct7, funct6, funct5, aq_in, rl_in, imm_i, imm_s, imm_b, imm_u, imm_j, amount_64, amount_32}
 
+-- the instruction of a word that has the opcode of `jalr`
 abbrev pub jalr_of : ℕ → Option Inst
 jalr_of word = if funct3 word == 0 then Some (Jalr (rd_in word) (rs1_in word) (imm_i word)) else None
 
+-- the condition of a branch of a funct3
 abbrev pub cond_at : ℕ → Option Cond
 cond_at f3 =
     if f3 == 0 then Some Equal
@@ -25,12 +27,15 @@ cond_at f3 =
     else if f3 == 7 then Some GreaterOrEqualUnsigned
     else None
 
+-- the instruction of a word that has the opcode of branches
 abbrev pub branch_of : ℕ → Option Inst
 branch_of word = option_map (λ cond. Branch cond (rs1_in word) (rs2_in word) (imm_b word)) (cond_at (funct3 word))
 
+-- a load of so many bytes, sign-extended or not, with the fields of a word
 abbrev pub load_with : ℕ → ℕ → Bool → Option Inst
 load_with word width signed = Some (Load width signed (rd_in word) (rs1_in word) (imm_i word))
 
+-- the instruction of a word that has the opcode of loads
 abbrev pub load_of : ℕ → Option Inst
 load_of word =
     if funct3 word == 0 then load_with word 1 true
@@ -42,9 +47,11 @@ load_of word =
     else if funct3 word == 6 then load_with word 4 false
     else None
 
+-- a store of so many bytes, with the fields of a word
 abbrev pub store_with : ℕ → ℕ → Option Inst
 store_with word width = Some (Store width (rs1_in word) (rs2_in word) (imm_s word))
 
+-- the instruction of a word that has the opcode of stores
 abbrev pub store_of : ℕ → Option Inst
 store_of word =
     if funct3 word == 0 then store_with word 1
@@ -53,9 +60,11 @@ store_of word =
     else if funct3 word == 3 then store_with word 8
     else None
 
+-- an operation on an immediate, with the registers of a word
 abbrev pub imm_with : ℕ → AluOp → ℤ → Option Inst
 imm_with word op imm = Some (AluImm op (rd_in word) (rs1_in word) imm)
 
+-- the instruction of a word that has the opcode of operations on immediates
 abbrev pub imm_of : ℕ → Option Inst
 imm_of word =
     if funct3 word == 0 then imm_with word Add (imm_i word)
@@ -68,6 +77,7 @@ imm_of word =
     else if funct3 word == 7 then imm_with word And (imm_i word)
     else None
 
+-- the instruction of a word that has the opcode of operations on immediates, of 32 bits
 abbrev pub imm_word_of : ℕ → Option Inst
 imm_word_of word =
     if funct3 word == 0 then imm_with word Addw (imm_i word)
@@ -75,7 +85,7 @@ imm_word_of word =
     else if funct3 word == 5 then (if funct7 word == 0x00 then imm_with word Srlw (pos (amount_32 word)) else if funct7 word == 0x20 then imm_with word Sraw (pos (amount_32 word)) else None)
     else None
 
--- by funct3, where funct7 is 00, 20 or 01
+-- the operation on two registers of a funct3, where funct7 is 00
 abbrev pub base_at : ℕ → Option AluOp
 base_at f3 =
     if f3 == 0 then Some Add
@@ -88,12 +98,14 @@ base_at f3 =
     else if f3 == 7 then Some And
     else None
 
+-- the operation on two registers of a funct3, where funct7 is 20
 abbrev pub other_at : ℕ → Option AluOp
 other_at f3 =
     if f3 == 0 then Some Sub
     else if f3 == 5 then Some Sra
     else None
 
+-- the operation on two registers of a funct3, where funct7 is 01
 abbrev pub product_at : ℕ → Option AluOp
 product_at f3 =
     if f3 == 0 then Some Mul
@@ -106,6 +118,7 @@ product_at f3 =
     else if f3 == 7 then Some Remu
     else None
 
+-- the operation on the low 32 bits of two registers of a funct3, where funct7 is 00
 abbrev pub base_word_at : ℕ → Option AluOp
 base_word_at f3 =
     if f3 == 0 then Some Addw
@@ -113,12 +126,14 @@ base_word_at f3 =
     else if f3 == 5 then Some Srlw
     else None
 
+-- the operation on the low 32 bits of two registers of a funct3, where funct7 is 20
 abbrev pub other_word_at : ℕ → Option AluOp
 other_word_at f3 =
     if f3 == 0 then Some Subw
     else if f3 == 5 then Some Sraw
     else None
 
+-- the operation on the low 32 bits of two registers of a funct3, where funct7 is 01
 abbrev pub product_word_at : ℕ → Option AluOp
 product_word_at f3 =
     if f3 == 0 then Some Mulw
@@ -128,22 +143,27 @@ product_word_at f3 =
     else if f3 == 7 then Some Remuw
     else None
 
--- opcode 33, and opcode 3B
+-- the operation on two registers of a funct7 and a funct3, where the opcode is 33
 abbrev pub op_at : ℕ → ℕ → Option AluOp
 op_at f7 f3 = if f7 == 0x00 then base_at f3 else if f7 == 0x20 then other_at f3 else if f7 == 0x01 then product_at f3 else None
 
+-- the operation on two registers of a funct7 and a funct3, where the opcode is 3B
 abbrev pub op_word_at : ℕ → ℕ → Option AluOp
 op_word_at f7 f3 = if f7 == 0x00 then base_word_at f3 else if f7 == 0x20 then other_word_at f3 else if f7 == 0x01 then product_word_at f3 else None
 
+-- an operation on two registers, with the registers of a word
 abbrev pub alu_with : ℕ → Option AluOp → Option Inst
 alu_with word op = option_map (λ op. Alu op (rd_in word) (rs1_in word) (rs2_in word)) op
 
+-- the instruction of a word that has the opcode of fences
 abbrev pub fence_of : ℕ → Option Inst
 fence_of word = if funct3 word == 0 then Some (Fence word) else if funct3 word == 1 then Some (FenceI word) else None
 
+-- the instruction of a word that has the opcode of calls
 abbrev pub system_of : ℕ → Option Inst
 system_of word = if word == 0x00000073 then Some Ecall else if word == 0x00100073 then Some Ebreak else None
 
+-- the atomic memory operation of a funct5
 abbrev pub amo_at : ℕ → Option AmoOp
 amo_at f5 =
     if f5 == 0b00001 then Some amo.Swap
@@ -157,22 +177,26 @@ amo_at f5 =
     else if f5 == 0b11100 then Some amo.Maxu
     else None
 
+-- the instruction of a word that has the funct5 of `lr`, of 64 bits or of 32
 abbrev pub lr_of : ℕ → Bool → Option Inst
 lr_of word wide = if rs2_in word == 0 then Some (Lr wide (aq_in word) (rl_in word) (rd_in word) (rs1_in word)) else None
 
-abbrev pub amo_of : ℕ → Bool → Option Inst
-amo_of word wide = option_map (λ op. Amo op wide (aq_in word) (rl_in word) (rd_in word) (rs1_in word) (rs2_in word)) (amo_at (funct5 word))
+-- the instruction of a word that has the funct5 of neither `lr` nor `sc`, of 64 bits or of 32
+abbrev pub amo_inst_of : ℕ → Bool → Option Inst
+amo_inst_of word wide = option_map (λ op. Amo op wide (aq_in word) (rl_in word) (rd_in word) (rs1_in word) (rs2_in word)) (amo_at (funct5 word))
 
+-- the instruction of a word that has the opcode of atomic instructions, of 64 bits or of 32
 abbrev pub atomic_with : ℕ → Bool → Option Inst
 atomic_with word wide =
     if funct5 word == 0b00010 then lr_of word wide
     else if funct5 word == 0b00011 then Some (Sc wide (aq_in word) (rl_in word) (rd_in word) (rs1_in word) (rs2_in word))
-    else amo_of word wide
+    else amo_inst_of word wide
 
+-- the instruction of a word that has the opcode of atomic instructions
 abbrev pub atomic_of : ℕ → Option Inst
 atomic_of word = if funct3 word == 2 then atomic_with word false else if funct3 word == 3 then atomic_with word true else None
 
--- by the opcode
+-- the instruction of a word that has this opcode
 unfoldable pub inst_by : ℕ → ℕ → Option Inst
 inst_by op word =
     if op == 0x37 then Some (Lui (rd_in word) (imm_u word))
@@ -191,5 +215,6 @@ inst_by op word =
     else if op == 0x2F then atomic_of word
     else None
 
+-- the instruction of a word, if it is one
 unfoldable pub inst_of : ℕ → Option Inst
 inst_of word = inst_by (opcode word) word

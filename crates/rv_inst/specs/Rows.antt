@@ -1,6 +1,6 @@
 -- The rows of the instruction table: which word is which instruction (RISC-V unprivileged ISA,
 -- "RV32/64G Instruction Set Listings": RV64I, M, A and Zifencei).
-use Rattle.std.specs.Prelude.{◌≡◌, ◌==◌, ℕ, ℤ, pos, Bool, true, false, Option, Some, None, if◌then◌else◌}
+use Rattle.std.specs.Prelude.{◌≡◌, ◌⊎◌, ◌==◌, ℕ, ℤ, pos, Bool, true, false, Option, Some, None, if◌then◌else◌}
 use Rattle.rv_alu.specs.declared.op.AluOp.{AluOp}
 use Rattle.rv_alu.specs.declared.op.AluOp.TheVariants.{Add, Sub, Sll, Slt, Sltu, Xor, Srl, Sra, Or, And, Addw, Subw, Sllw, Srlw, Sraw, Mul, Mulh, Mulhsu, Mulhu, Div, Divu, Rem, Remu, Mulw, Divw, Divuw, Remw, Remuw}
 use Rattle.rv_alu.specs.declared.op.AmoOp.{AmoOp}
@@ -11,7 +11,7 @@ use Rattle.rv_inst.specs.declared.inst.Inst.{Inst}
 use Rattle.rv_inst.specs.declared.inst.Inst.TheVariants.{Lui, Auipc, Jal, Jalr, Branch, Load, Store, AluImm, Alu, Amo, Lr, Sc, Fence, FenceI, Ecall, Ebreak}
 use Rattle.rv_inst.specs.Fields.{opcode, rd_in, funct3, rs1_in, rs2_in, funct7, funct6, funct5, aq_in, rl_in, imm_i, imm_s, imm_b, imm_u, imm_j, amount_64, amount_32}
 
--- branches: funct3
+-- funct3 of a branch
 abbrev pub branch_code : Cond → ℕ
 branch_code Equal = 0
 branch_code NotEqual = 1
@@ -20,7 +20,11 @@ branch_code GreaterOrEqual = 5
 branch_code LessUnsigned = 6
 branch_code GreaterOrEqualUnsigned = 7
 
--- loads, sign-extended or not, and stores: funct3, by the width in bytes
+-- how many bytes an access may have: 1, 2, 4 or 8
+abbrev pub IsWidth : ℕ → Type 0
+IsWidth width = (width ≡ 1) ⊎ ((width ≡ 2) ⊎ ((width ≡ 4) ⊎ (width ≡ 8)))
+
+-- funct3 of a load of so many bytes, sign-extended or not, where there is one
 abbrev pub load_code : ℕ → Bool → Option ℕ
 load_code width true =
     if width == 1 then Some 0
@@ -34,6 +38,7 @@ load_code width false =
     else if width == 4 then Some 6
     else None
 
+-- funct3 of a store of so many bytes, where there is one
 abbrev pub store_code : ℕ → Option ℕ
 store_code width =
     if width == 1 then Some 0
@@ -42,7 +47,7 @@ store_code width =
     else if width == 8 then Some 3
     else None
 
--- operations on two registers: opcode, funct3 and funct7
+-- opcode, funct3 and funct7 of an operation on two registers
 abbrev pub alu_codes : AluOp → ℕ × ℕ × ℕ
 alu_codes Add = (0x33, 0, 0x00)
 alu_codes Sll = (0x33, 1, 0x00)
@@ -73,16 +78,19 @@ alu_codes Divuw = (0x3B, 5, 0x01)
 alu_codes Remw = (0x3B, 6, 0x01)
 alu_codes Remuw = (0x3B, 7, 0x01)
 
+-- the word has this opcode, funct3 and funct7
 abbrev pub HasCodes : ℕ → ℕ × ℕ × ℕ → Type 0
 HasCodes word codes = (opcode word ≡ codes.0) × (funct3 word ≡ codes.1) × (funct7 word ≡ codes.2)
 
--- operations on a register and an immediate: a number, with opcode and funct3; or the amount of a shift of
--- 64 bits, with the six bits above it; or of 32 bits, with funct7
+-- how a register and an immediate are operated on: the immediate is a number, with opcode and
+-- funct3; or the amount of a shift of 64 bits, with the six bits above it; or of 32 bits, with
+-- funct7
 pub data ImmCodes : Type 0 where
   Number : ℕ → ℕ → ImmCodes
   Shift64 : ℕ → ℕ → ℕ → ImmCodes
   Shift32 : ℕ → ℕ → ℕ → ImmCodes
 
+-- the codes of an operation on a register and an immediate, where there is one
 abbrev pub imm_codes : AluOp → Option ImmCodes
 imm_codes Add = Some (Number 0x13 0)
 imm_codes Slt = Some (Number 0x13 2)
@@ -99,13 +107,14 @@ imm_codes Srlw = Some (Shift32 0x1B 5 0x00)
 imm_codes Sraw = Some (Shift32 0x1B 5 0x20)
 imm_codes op = None
 
+-- the word has these codes, and this immediate
 abbrev pub HasImm : ℕ → Option ImmCodes → ℤ → Type 0
 HasImm word (Some (Number op f3)) imm = (opcode word ≡ op) × (funct3 word ≡ f3) × (imm ≡ imm_i word)
 HasImm word (Some (Shift64 op f3 f6)) imm = (opcode word ≡ op) × (funct3 word ≡ f3) × (funct6 word ≡ f6) × (imm ≡ pos (amount_64 word))
 HasImm word (Some (Shift32 op f3 f7)) imm = (opcode word ≡ op) × (funct3 word ≡ f3) × (funct7 word ≡ f7) × (imm ≡ pos (amount_32 word))
 HasImm word None imm = ⊥
 
--- atomic memory operations: funct5
+-- funct5 of an atomic memory operation
 abbrev pub amo_code : AmoOp → ℕ
 amo_code amo.Swap = 0b00001
 amo_code amo.Add = 0b00000
@@ -117,9 +126,11 @@ amo_code amo.Max = 0b10100
 amo_code amo.Minu = 0b11000
 amo_code amo.Maxu = 0b11100
 
+-- funct3 of an atomic instruction, of 64 bits or of 32
 abbrev pub wide_code : Bool → ℕ
 wide_code wide = if wide then 3 else 2
 
+-- the word is an atomic instruction of this funct5, width and order
 abbrev pub IsAtomic : ℕ → ℕ → Bool → Bool → Bool → Type 0
 IsAtomic word f5 wide aq rl = (opcode word ≡ 0x2F) × (funct3 word ≡ wide_code wide) × (funct5 word ≡ f5) × (aq ≡ aq_in word) × (rl ≡ rl_in word)
 

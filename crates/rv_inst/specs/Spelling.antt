@@ -1,10 +1,12 @@
 -- Instructions that some word is, and that word.
-use Rattle.std.specs.Prelude.{◌≡◌, ◌≢◌, ◌<◌, ◌≤ℤ◌, ◌+◌, ◌-◌, ◌*◌, ◌/◌, ◌%◌, ◌^◌, ℕ, ℤ, pos, negsuc, Bool, Option, Some, None, if◌then◌else◌, unsigned_abs, unwrap_or}
+use Rattle.std.specs.Prelude.{◌≡◌, ◌≢◌, ◌<◌, ◌≤ℤ◌, ◌+◌, ◌-◌, ◌*◌, ◌/◌, ◌%◌, ◌^◌, ℕ, ℤ, pos, negsuc, Bool, Option, Some, None, unsigned_abs, unwrap_or}
+use Rattle.rv_alu.specs.Arithmetic.{one_if}
 use Rattle.rv_inst.specs.declared.inst.Inst.{Inst}
 use Rattle.rv_inst.specs.declared.inst.Inst.TheVariants.{Lui, Auipc, Jal, Jalr, Branch, Load, Store, AluImm, Alu, Amo, Lr, Sc, Fence, FenceI, Ecall, Ebreak}
 use Rattle.rv_inst.specs.Fields.{opcode, funct3}
 use Rattle.rv_inst.specs.Rows.{ImmCodes, Number, Shift64, Shift32, branch_code, load_code, store_code, alu_codes, imm_codes, amo_code, wide_code}
 
+-- the number of a register: 0 to 31
 abbrev pub IsRegister : ℕ → Type 0
 IsRegister r = r < 2 ^ 5
 
@@ -12,6 +14,7 @@ IsRegister r = r < 2 ^ 5
 abbrev pub IsNumber : ℕ → ℤ → Type 0
 IsNumber bits z = (negsuc (2 ^ (bits - 1) - 1) ≤ℤ z) × (z ≤ℤ pos (2 ^ (bits - 1) - 1))
 
+-- a multiple of a number
 abbrev pub IsMultiple : ℕ → ℤ → Type 0
 IsMultiple n z = unsigned_abs z % n ≡ 0
 
@@ -19,6 +22,7 @@ IsMultiple n z = unsigned_abs z % n ≡ 0
 abbrev pub IsAmount : ℕ → ℤ → Type 0
 IsAmount bits z = (pos 0 ≤ℤ z) × (z ≤ℤ pos (bits - 1))
 
+-- an immediate that these codes have room for
 abbrev pub IsImm : Option ImmCodes → ℤ → Type 0
 IsImm (Some (Number op f3)) imm = IsNumber 12 imm
 IsImm (Some (Shift64 op f3 f6)) imm = IsAmount 64 imm
@@ -49,38 +53,43 @@ abbrev pub low_bits : ℕ → ℤ → ℕ
 low_bits bits (pos n) = n % 2 ^ bits
 low_bits bits (negsuc n) = 2 ^ bits - 1 - n % 2 ^ bits
 
--- Words of the formats R, I, S, B, U and J, where a number stands by its low bits (RISC-V unprivileged ISA,
--- "Base Instruction Formats" and "Immediate Encoding Variants").
+-- The words of the formats, where a number stands by its low bits, are those of the RISC-V
+-- unprivileged ISA, "Base Instruction Formats" and "Immediate Encoding Variants".
+
+-- the word of format R: three registers
 abbrev pub word_r : ℕ → ℕ → ℕ → ℕ → ℕ → ℕ → ℕ
 word_r op f3 f7 rd rs1 rs2 = f7 * 2 ^ 25 + rs2 * 2 ^ 20 + rs1 * 2 ^ 15 + f3 * 2 ^ 12 + rd * 2 ^ 7 + op
 
+-- the word of format I: two registers and a number of 12 bits
 abbrev pub word_i : ℕ → ℕ → ℕ → ℕ → ℕ → ℕ
 word_i op f3 rd rs1 n = n * 2 ^ 20 + rs1 * 2 ^ 15 + f3 * 2 ^ 12 + rd * 2 ^ 7 + op
 
+-- the word of format S: two registers that are read, and a number of 12 bits
 abbrev pub word_s : ℕ → ℕ → ℕ → ℕ → ℕ → ℕ
 word_s op f3 rs1 rs2 n = n / 2 ^ 5 * 2 ^ 25 + rs2 * 2 ^ 20 + rs1 * 2 ^ 15 + f3 * 2 ^ 12 + n % 2 ^ 5 * 2 ^ 7 + op
 
+-- the word of format B: two registers that are read, and an even number of 13 bits
 abbrev pub word_b : ℕ → ℕ → ℕ → ℕ → ℕ → ℕ
 word_b op f3 rs1 rs2 n = n / 2 ^ 12 * 2 ^ 31 + n / 2 ^ 5 % 2 ^ 6 * 2 ^ 25 + rs2 * 2 ^ 20 + rs1 * 2 ^ 15 + f3 * 2 ^ 12 + n / 2 % 2 ^ 4 * 2 ^ 8 + n / 2 ^ 11 % 2 * 2 ^ 7 + op
 
+-- the word of format U: a register, and the upper 20 of 32 bits
 abbrev pub word_u : ℕ → ℕ → ℕ → ℕ
 word_u op rd n = n / 2 ^ 12 * 2 ^ 12 + rd * 2 ^ 7 + op
 
+-- the word of format J: a register, and an even number of 21 bits
 abbrev pub word_j : ℕ → ℕ → ℕ → ℕ
 word_j op rd n = n / 2 ^ 20 * 2 ^ 31 + n / 2 % 2 ^ 10 * 2 ^ 21 + n / 2 ^ 11 % 2 * 2 ^ 20 + n / 2 ^ 12 % 2 ^ 8 * 2 ^ 12 + rd * 2 ^ 7 + op
 
+-- the word of an operation on a register and an immediate, by its codes
 abbrev pub word_imm : Option ImmCodes → ℕ → ℕ → ℤ → ℕ
 word_imm (Some (Number op f3)) rd rs1 imm = word_i op f3 rd rs1 (low_bits 12 imm)
 word_imm (Some (Shift64 op f3 f6)) rd rs1 imm = word_i op f3 rd rs1 (f6 * 2 ^ 6 + unsigned_abs imm)
 word_imm (Some (Shift32 op f3 f7)) rd rs1 imm = word_i op f3 rd rs1 (f7 * 2 ^ 5 + unsigned_abs imm)
 word_imm None rd rs1 imm = 0
 
-abbrev pub bit_of : Bool → ℕ
-bit_of b = if b then 1 else 0
-
 -- funct7 of an atomic instruction
 abbrev pub atomic_code : ℕ → Bool → Bool → ℕ
-atomic_code f5 aq rl = f5 * 2 ^ 2 + bit_of aq * 2 ^ 1 + bit_of rl
+atomic_code f5 aq rl = f5 * 2 ^ 2 + one_if aq * 2 ^ 1 + one_if rl
 
 -- the word of an instruction that has one
 abbrev pub word_of : Inst → ℕ

@@ -1,11 +1,14 @@
 //! From a word to its instruction.
-ghost use Rattle.std.specs.Prelude.{◌≡◌, ◌<◌, ◌≤◌, ◌+◌, ◌↔◌, IfSome, Some, pos};
+ghost use Rattle.std.specs.Prelude.{◌≡◌, ◌↔◌, IfSome, Some};
 ghost use Rattle.rv_inst.specs.Rows.{IsRow};
 ghost use Rattle.rv_inst.specs.Spelling.{IsSpelled};
 ghost use Rattle.rv_inst.specs.declared.inst.Inst.{Inst};
-ghost use Rattle.rv_inst.specs.Fields as fields;
-ghost use Rattle.rv_inst.specs.Decoding.{inst_of, jalr_of, cond_at, branch_of, load_of, store_of, imm_with, imm_of, imm_word_of, base_at, other_at, product_at, base_word_at, other_word_at, product_word_at, op_at, op_word_at, alu_with, fence_of, system_of, amo_at, lr_of, amo_of, atomic_with, atomic_of};
+ghost use Rattle.rv_inst.specs.Decoding.{inst_of, jalr_of, cond_at, branch_of, load_of, store_of, imm_with, imm_of, imm_word_of, base_at, other_at, product_at, base_word_at, other_word_at, product_word_at, op_at, op_word_at, alu_with, fence_of, system_of, amo_at, lr_of, amo_inst_of, atomic_with, atomic_of};
 
+use crate::fields::{
+    amount_32, amount_64, aq, funct3, funct5, funct6, funct7, imm_b, imm_i, imm_j, imm_s, imm_u,
+    opcode, rd, rl, rs1, rs2,
+};
 use crate::{Inst, words_are_rows};
 use rv_alu::{AluOp, AmoOp, Cond};
 
@@ -52,125 +55,6 @@ fn by_opcode(word: u32) -> Option<Inst>
         0x2F => atomic(word),
         _ => None,
     }
-}
-
-// The bits from the highest down to the lowest.
-fn bits(word: u32, high: u32, low: u32) -> u32
-    requires { (low ≤ high) × (high < 32) × (high < low + 31) }
-    ensures { result ≡ fields.bits high low word }
-{
-    (word >> low) % (1 << (high + 1 - low))
-}
-
-fn opcode(word: u32) -> u32
-    ensures { result ≡ fields.opcode word }
-{
-    bits(word, 6, 0)
-}
-
-fn rd(word: u32) -> u8
-    ensures { result ≡ fields.rd_in word }
-{
-    bits(word, 11, 7) as u8
-}
-
-fn funct3(word: u32) -> u32
-    ensures { result ≡ fields.funct3 word }
-{
-    bits(word, 14, 12)
-}
-
-fn rs1(word: u32) -> u8
-    ensures { result ≡ fields.rs1_in word }
-{
-    bits(word, 19, 15) as u8
-}
-
-fn rs2(word: u32) -> u8
-    ensures { result ≡ fields.rs2_in word }
-{
-    bits(word, 24, 20) as u8
-}
-
-fn funct7(word: u32) -> u32
-    ensures { result ≡ fields.funct7 word }
-{
-    bits(word, 31, 25)
-}
-
-fn funct6(word: u32) -> u32
-    ensures { result ≡ fields.funct6 word }
-{
-    bits(word, 31, 26)
-}
-
-fn funct5(word: u32) -> u32
-    ensures { result ≡ fields.funct5 word }
-{
-    bits(word, 31, 27)
-}
-
-fn aq(word: u32) -> bool
-    ensures { result ≡ fields.aq_in word }
-{
-    bits(word, 26, 26) == 1
-}
-
-fn rl(word: u32) -> bool
-    ensures { result ≡ fields.rl_in word }
-{
-    bits(word, 25, 25) == 1
-}
-
-fn imm_i(word: u32) -> i64
-    ensures { result ≡ fields.imm_i word }
-{
-    let n = i64::from(bits(word, 31, 20));
-    if n < 1 << 11 { n } else { n - (1 << 12) }
-}
-
-fn imm_s(word: u32) -> i64
-    ensures { result ≡ fields.imm_s word }
-{
-    let n = i64::from(bits(word, 31, 25) * (1 << 5) + bits(word, 11, 7));
-    if n < 1 << 11 { n } else { n - (1 << 12) }
-}
-
-fn imm_b(word: u32) -> i64
-    ensures { result ≡ fields.imm_b word }
-{
-    let high = bits(word, 31, 31) * (1 << 12) + bits(word, 7, 7) * (1 << 11);
-    let low = bits(word, 30, 25) * (1 << 5) + bits(word, 11, 8) * (1 << 1);
-    let n = i64::from(high + low);
-    if n < 1 << 12 { n } else { n - (1 << 13) }
-}
-
-fn imm_u(word: u32) -> i64
-    ensures { result ≡ fields.imm_u word }
-{
-    let n = i64::from(bits(word, 31, 12)) * (1 << 12);
-    if n < 1 << 31 { n } else { n - (1 << 32) }
-}
-
-fn imm_j(word: u32) -> i64
-    ensures { result ≡ fields.imm_j word }
-{
-    let high = bits(word, 31, 31) * (1 << 20) + bits(word, 19, 12) * (1 << 12);
-    let low = bits(word, 20, 20) * (1 << 11) + bits(word, 30, 21) * (1 << 1);
-    let n = i64::from(high + low);
-    if n < 1 << 20 { n } else { n - (1 << 21) }
-}
-
-fn amount_64(word: u32) -> i64
-    ensures { result ≡ pos (fields.amount_64 word) }
-{
-    i64::from(bits(word, 25, 20))
-}
-
-fn amount_32(word: u32) -> i64
-    ensures { result ≡ pos (fields.amount_32 word) }
-{
-    i64::from(bits(word, 24, 20))
 }
 
 fn jalr(word: u32) -> Option<Inst>
@@ -453,7 +337,7 @@ fn lr(word: u32, wide: bool) -> Option<Inst>
 }
 
 fn amo(word: u32, wide: bool) -> Option<Inst>
-    ensures { result ≡ amo_of word wide }
+    ensures { result ≡ amo_inst_of word wide }
 {
     Some(Inst::Amo {
         op: amo_op(funct5(word))?,

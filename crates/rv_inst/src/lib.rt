@@ -2,19 +2,17 @@
 #![tactic(auto)]
 
 mod arch;
+/// The causes of traps.
+pub mod causes;
 mod decoding;
+mod fields;
 mod inst;
 mod laws;
-#[cfg(test)]
-mod operation_tests;
-#[cfg(test)]
-mod reserved_word_tests;
-#[cfg(test)]
-mod tests;
 mod want;
 
 pub use arch::Arch;
 pub use decoding::decode;
+pub use fields::bits;
 pub use inst::Inst;
-pub use laws::words_are_rows;
+pub use laws::{accesses_have_widths, words_are_rows};
 pub use want::Want;

@@ -50,9 +50,7 @@ pub enum Want {
     ///
     /// RISC-V unprivileged ISA, "Environment Call and Breakpoints".
     Call,
-    /// To stop with a trap, with its cause and value: 0 for a jump to a target that is no multiple of 4,
-    /// 3 for a breakpoint, 4 for a load and 6 for a store or an atomic memory operation at an address
-    /// that is no multiple of its width.
+    /// To stop with a trap, with its cause, one of [`causes`](crate::causes), and its value.
     ///
     /// RISC-V privileged ISA, "Machine Cause Register".
     Trap {

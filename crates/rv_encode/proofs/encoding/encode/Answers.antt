@@ -23,5 +23,5 @@ returns-clause-inverse c = λ word small.
     let row = law.row word inst in
     let answer = c.by_format.result in (
       λ e. row.1 (is_row inst answer word c.by_format.ensures (λ spelled. (law.spells inst spelled).1) e),
-      λ e. is_answer inst answer word c.by_format.ensures (law.spelled word inst small (row.0 e)),
+      λ e. is_answer inst answer word c.by_format.ensures (law.spelled word inst small (row.0 e), law.word word inst small (row.0 e)),
     )

@@ -10,4 +10,4 @@ if_some (Some x) P h = h x refl
 
 pub returns-clause-spelled : goal.returns-clause-spelled
 returns-clause-spelled c =
-    if_some c.by_opcode.result IsSpelled (λ inst e. (c.words_are_rows.ensures.spelled c.args.word inst (omega arith) ((c.words_are_rows.ensures.row c.args.word inst).0 (rw (← c.by_opcode.ensures) e))).0)
+    if_some c.by_opcode.result IsSpelled (λ inst e. (c.words_are_rows.ensures.spelled c.args.word inst (omega arith) ((c.words_are_rows.ensures.row c.args.word inst).0 (rw (← c.by_opcode.ensures) e))))

@@ -7,7 +7,10 @@ pub returns-clause-row : goal.returns-clause-row
 returns-clause-row c = λ word inst. (row_of_inst word inst, inst_of_row word inst)
 
 pub returns-clause-spelled : goal.returns-clause-spelled
-returns-clause-spelled c = λ word inst w h. (fields_fit word inst w h, row_is_word word inst w h)
+returns-clause-spelled c = λ word inst w h. fields_fit word inst w h
+
+pub returns-clause-word : goal.returns-clause-word
+returns-clause-word c = λ word inst w h. row_is_word word inst w h
 
 pub returns-clause-spells : goal.returns-clause-spells
 returns-clause-spells c = λ inst h. word_is_row inst h
