@@ -11,9 +11,9 @@ use Rattle.byteorder.specs.Endian.{little_number, IsRead}
 use Rattle.std.proofs.lemmas.Bool.Decides.{nat_tests}
 use Rattle.std.proofs.lemmas.Grind.{common_steps}
 use Rattle.elf_read.specs.declared.records.Segment.{Segment}
-use Rattle.elf_load.specs.Segments.{end_of}
-use Rattle.elf_load.specs.Placing.{is_placeable, goes_before, IsRising}
-use Rattle.elf_load.specs.Loaded.{holds, given, byte_at, bytes_at, words_in}
+use Rattle.elf_load.specs.Segments.{segment_end}
+use Rattle.elf_load.specs.Placing.{is_placeable, goes_before, AreInOrder}
+use Rattle.elf_load.specs.Loaded.{covers, given, byte_at, bytes_at, words_in}
 use Rattle.elf_load.proofs.PlacingLemmas.{goes_ends}
 use Rattle.elf_load.proofs.OnPageLemmas.{all_at}
 
@@ -36,17 +36,17 @@ part_of file o f a b k in_file le lt h = grind (arith, common_steps)
 pub part_copied : (file page copied : List ℕ) (s : Segment) (start from to k : ℕ) → length page ≡ 4096 → s.p_offset + s.p_filesz ≤ length file
     → from ≡ max s.p_vaddr start → to ≡ min (s.p_vaddr + s.p_filesz) (start + 4096) → from < to
     → copied ≡ slice_range (slice_range file s.p_offset (s.p_offset + s.p_filesz)) (from - s.p_vaddr) (to - s.p_vaddr) → length copied ≡ to - from → k < 4096
-    → get_or (put_mid (from - start) (to - start - (from - start)) page copied) k 0 ≡ cond (holds s (start + k)) (given file s (start + k)) (get_or page k 0)
+    → get_or (put_mid (from - start) (to - start - (from - start)) page copied) k 0 ≡ cond (covers s (start + k)) (given file s (start + k)) (get_or page k 0)
 part_copied file page copied s start from to k whole in_file f t lt e size h = by_place (nat_lt (start + k) from) (nat_lt (start + k) to) refl refl
   where
     by_place : (b c : Bool) → nat_lt (start + k) from ≡ b → nat_lt (start + k) to ≡ c
-        → get_or (put_mid (from - start) (to - start - (from - start)) page copied) k 0 ≡ cond (holds s (start + k)) (given file s (start + k)) (get_or page k 0)
+        → get_or (put_mid (from - start) (to - start - (from - start)) page copied) k 0 ≡ cond (covers s (start + k)) (given file s (start + k)) (get_or page k 0)
     by_place true c b d =
-        let out : holds s (start + k) ≡ false = grind (arith, nat_tests) in
+        let out : covers s (start + k) ≡ false = grind (arith, nat_tests) in
         let below : k < from - start = grind (arith, nat_tests) in
         rw out (over_below page copied (post_of (from - start) (to - start - (from - start)) page) (from - start) k (omega arith) below)
     by_place false true b d =
-        let out : holds s (start + k) ≡ true = grind (arith, nat_tests) in
+        let out : covers s (start + k) ≡ true = grind (arith, nat_tests) in
         let lo : from - start ≤ k = grind (arith, nat_tests) in
         let hi : k < to - start = grind (arith, nat_tests) in
         rw out (over_within page copied (post_of (from - start) (to - start - (from - start)) page) (from - start) k (omega arith) lo (omega arith)
@@ -54,7 +54,7 @@ part_copied file page copied s start from to k whole in_file f t lt e size h = b
         ∙ part_of file s.p_offset s.p_filesz (from - s.p_vaddr) (to - s.p_vaddr) (k - (from - start)) in_file (omega arith) (omega arith) (omega arith)
         ∙ ap (λ n. get_or file n 0) (omega arith))
     by_place false false b d =
-        let out : holds s (start + k) ≡ false = grind (arith, nat_tests) in
+        let out : covers s (start + k) ≡ false = grind (arith, nat_tests) in
         let hi : to - start ≤ k = grind (arith, nat_tests) in
         rw out (over_above page copied (from - start) (to - start - (from - start)) k (omega arith) (omega arith) (omega arith))
 
@@ -87,39 +87,39 @@ find-push p (t ∷ ss) s = by_test (p t) (find-push p ss s)
     by_test false e = e
 
 -- what goes before a segment holds none of the addresses that the segment holds
-pub holds_apart : (size : ℕ) (t s : Segment) (a : ℕ) → is_placeable size t ≡ true → goes_before t s ≡ true → holds s a ≡ true → holds t a ≡ false
+pub holds_apart : (size : ℕ) (t s : Segment) (a : ℕ) → is_placeable size t ≡ true → goes_before t s ≡ true → covers s a ≡ true → covers t a ≡ false
 holds_apart size t s a h before held =
-    let ends : end_of t ≤ s.p_vaddr = goes_ends t s before in
+    let ends : segment_end t ≤ s.p_vaddr = goes_ends t s before in
     let fits : t.p_filesz ≤ t.p_memsz = fits_memory size t h in
     grind (arith, nat_tests)
 
-none_holds : (size : ℕ) (ss : List Segment) (i : ℕ) (d : Segment) (a : ℕ) → IsRising ss → AllByRecursion (λ s. is_placeable size s ≡ true) ss → i < length ss → holds (get_or ss i d) a ≡ true
-    → AllByRecursion (λ t. holds t a ≡ false) (take i ss)
+none_holds : (size : ℕ) (ss : List Segment) (i : ℕ) (d : Segment) (a : ℕ) → AreInOrder ss → AllByRecursion (λ s. is_placeable size s ≡ true) ss → i < length ss → covers (get_or ss i d) a ≡ true
+    → AllByRecursion (λ t. covers t a ≡ false) (take i ss)
 none_holds size [] i d a rising each lt held = absurd (omega arith)
 none_holds size (s ∷ ss) zero d a rising each lt held = tt
 none_holds size (s ∷ ss) (suc i) d a rising each lt held =
     (holds_apart size s (get_or ss i d) a each.0 (all_at (λ t. goes_before s t ≡ true) ss i d rising.0 (omega arith)) held, none_holds size ss i d a rising.1 each.1 (omega arith) held)
 
 -- one more segment gives the bytes that it holds
-byte_at-more : (file : List ℕ) (size : ℕ) (ss : List Segment) (i : ℕ) (d : Segment) (a : ℕ) → IsRising ss → AllByRecursion (λ s. is_placeable size s ≡ true) ss → i < length ss
-    → byte_at file (take (i + 1) ss) a ≡ cond (holds (get_or ss i d) a) (given file (get_or ss i d) a) (byte_at file (take i ss) a)
+byte_at-more : (file : List ℕ) (size : ℕ) (ss : List Segment) (i : ℕ) (d : Segment) (a : ℕ) → AreInOrder ss → AllByRecursion (λ s. is_placeable size s ≡ true) ss → i < length ss
+    → byte_at file (take (i + 1) ss) a ≡ cond (covers (get_or ss i d) a) (given file (get_or ss i d) a) (byte_at file (take i ss) a)
 byte_at-more file size ss i d a rising each lt =
-    ap (λ ts. byte_at file ts a) (take_more ss i d lt) ∙ ap (λ o. option_map_or (λ s. given file s a) o 0) (find-push (λ s. holds s a) (take i ss) (get_or ss i d)) ∙ by_test (holds (get_or ss i d) a) refl
+    ap (λ ts. byte_at file ts a) (take_more ss i d lt) ∙ ap (λ o. option_map_or (λ s. given file s a) o 0) (find-push (λ s. covers s a) (take i ss) (get_or ss i d)) ∙ by_test (covers (get_or ss i d) a) refl
   where
-    by_test : (b : Bool) → holds (get_or ss i d) a ≡ b
-        → option_map_or (λ s. given file s a) (option_or (find (λ s. holds s a) (take i ss)) (cond b (Some (get_or ss i d)) None)) 0
-        ≡ cond b (given file (get_or ss i d) a) (option_map_or (λ s. given file s a) (find (λ s. holds s a) (take i ss)) 0)
-    by_test true e = rw (find_none (λ s. holds s a) (take i ss) (none_holds size ss i d a rising each lt e)) refl
-    by_test false e = or_none (find (λ s. holds s a) (take i ss))
+    by_test : (b : Bool) → covers (get_or ss i d) a ≡ b
+        → option_map_or (λ s. given file s a) (option_or (find (λ s. covers s a) (take i ss)) (cond b (Some (get_or ss i d)) None)) 0
+        ≡ cond b (given file (get_or ss i d) a) (option_map_or (λ s. given file s a) (find (λ s. covers s a) (take i ss)) 0)
+    by_test true e = rw (find_none (λ s. covers s a) (take i ss) (none_holds size ss i d a rising each lt e)) refl
+    by_test false e = or_none (find (λ s. covers s a) (take i ss))
       where
         or_none : (o : Option Segment) → option_map_or (λ s. given file s a) (option_or o None) 0 ≡ option_map_or (λ s. given file s a) o 0
         or_none None = refl
         or_none (Some s) = refl
 
-pub byte_step : (file : List ℕ) (size : ℕ) (ss : List Segment) (i : ℕ) (d : Segment) (a old new : ℕ) → IsRising ss → AllByRecursion (λ s. is_placeable size s ≡ true) ss → i < length ss
-    → new ≡ cond (holds (get_or ss i d) a) (given file (get_or ss i d) a) old → old ≡ byte_at file (take i ss) a → new ≡ byte_at file (take (i + 1) ss) a
+pub byte_step : (file : List ℕ) (size : ℕ) (ss : List Segment) (i : ℕ) (d : Segment) (a old new : ℕ) → AreInOrder ss → AllByRecursion (λ s. is_placeable size s ≡ true) ss → i < length ss
+    → new ≡ cond (covers (get_or ss i d) a) (given file (get_or ss i d) a) old → old ≡ byte_at file (take i ss) a → new ≡ byte_at file (take (i + 1) ss) a
 byte_step file size ss i d a old new rising each lt e f =
-    e ∙ ap (cond (holds (get_or ss i d) a) (given file (get_or ss i d) a)) f ∙ sym (byte_at-more file size ss i d a rising each lt)
+    e ∙ ap (cond (covers (get_or ss i d) a) (given file (get_or ss i d) a)) f ∙ sym (byte_at-more file size ss i d a rising each lt)
 
 -- ---- lists told by their elements
 

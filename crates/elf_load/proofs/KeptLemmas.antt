@@ -6,18 +6,19 @@ use Rattle.std.proofs.lemmas.Bool.Decides.{nat_tests}
 use Rattle.elf_read.specs.declared.records.Segment.{Segment}
 use Rattle.wf_outside.specs.Pages.{PageValue, DataPageValue}
 use Rattle.wf_outside.specs.Images.{IsImage, text_numbers, data_numbers}
+use Rattle.wf_outside.specs.declared.sizes.TheConstants.{DATA_END_PAGE}
 use Rattle.elf_load.specs.Segments.{meets, page_after, is_executable, is_text, is_data}
 use Rattle.elf_load.specs.Placing.{is_placeable}
-use Rattle.elf_load.specs.Loaded.{text_page, data_page, pages_below}
+use Rattle.elf_load.specs.Loaded.{loaded_text, loaded_data, pages_below}
 use Rattle.elf_load.proofs.PagingLemmas.{EndBy, end_low}
 use Rattle.elf_load.proofs.NumberLemmas.{below_low}
 
 -- the numbers of pages that are made of numbers
-text_made : (file : List ℕ) (loads : List Segment) (ns : List ℕ) → text_numbers (map (text_page file loads) ns) ≡ ns
+text_made : (file : List ℕ) (loads : List Segment) (ns : List ℕ) → text_numbers (map (loaded_text file loads) ns) ≡ ns
 text_made file loads [] = refl
 text_made file loads (n ∷ ns) = ap (λ xs. n ∷ xs) (text_made file loads ns)
 
-data_made : (file : List ℕ) (loads : List Segment) (ns : List ℕ) → data_numbers (map (data_page file loads) ns) ≡ ns
+data_made : (file : List ℕ) (loads : List Segment) (ns : List ℕ) → data_numbers (map (loaded_data file loads) ns) ≡ ns
 data_made file loads [] = refl
 data_made file loads (n ∷ ns) = ap (λ xs. n ∷ xs) (data_made file loads ns)
 
@@ -118,25 +119,25 @@ text_ends n k (s ∷ ss) low is = by_test (meets s k && is_executable s) refl is
 
 -- an image of text and data, of which the entry's page is one of text
 pub image_kept : (size entry : ℕ) (file : List ℕ) (loads : List Segment) (text : List PageValue) (pages : List DataPageValue) → AllByRecursion (λ s. is_placeable size s ≡ true) loads
-    → text ≡ map (text_page file loads) (pages_below 0x3E00000 (is_text loads)) → pages ≡ map (data_page file loads) (pages_below 0x3E00000 (is_data loads))
+    → text ≡ map (loaded_text file loads) (pages_below DATA_END_PAGE (is_text loads)) → pages ≡ map (loaded_data file loads) (pages_below DATA_END_PAGE (is_data loads))
     → ((entry % 4 == 0) && is_text loads (entry / 4096)) ≡ true → IsImage text pages entry
 image_kept size entry file loads text pages each t d is = record {
-  distinct = subst (IsDistinct nat_eq) (sym both) (below_distinct (is_text loads) (is_data loads) (text_no_data loads) 0x3E00000);
-  text_low = subst (All (λ n. n < 0x3E00000)) (sym texts) (below_low 0x3E00000 (is_text loads));
-  data_low = subst (All (λ n. n < 0x3E00000)) (sym datas) (below_low 0x3E00000 (is_data loads));
+  distinct = subst (IsDistinct nat_eq) (sym both) (below_distinct (is_text loads) (is_data loads) (text_no_data loads) DATA_END_PAGE);
+  text_low = subst (All (λ n. n < DATA_END_PAGE)) (sym texts) (below_low DATA_END_PAGE (is_text loads));
+  data_low = subst (All (λ n. n < DATA_END_PAGE)) (sym datas) (below_low DATA_END_PAGE (is_data loads));
   aligned = aligned (entry % 4) _ is;
   is_text = subst (λ (ns : List ℕ). Contains ns (entry / 4096)) (sym texts)
-      (below_contains 0x3E00000 (entry / 4096) (is_text loads) (text_ends 0x3E00000 (entry / 4096) loads (end_low size loads each) (there (entry % 4) _ is)) (there (entry % 4) _ is));
+      (below_contains DATA_END_PAGE (entry / 4096) (is_text loads) (text_ends DATA_END_PAGE (entry / 4096) loads (end_low size loads each) (there (entry % 4) _ is)) (there (entry % 4) _ is));
 }
   where
-    texts : text_numbers text ≡ pages_below 0x3E00000 (is_text loads)
-    texts = ap text_numbers t ∙ text_made file loads (pages_below 0x3E00000 (is_text loads))
+    texts : text_numbers text ≡ pages_below DATA_END_PAGE (is_text loads)
+    texts = ap text_numbers t ∙ text_made file loads (pages_below DATA_END_PAGE (is_text loads))
 
-    datas : data_numbers pages ≡ pages_below 0x3E00000 (is_data loads)
-    datas = ap data_numbers d ∙ data_made file loads (pages_below 0x3E00000 (is_data loads))
+    datas : data_numbers pages ≡ pages_below DATA_END_PAGE (is_data loads)
+    datas = ap data_numbers d ∙ data_made file loads (pages_below DATA_END_PAGE (is_data loads))
 
-    both : text_numbers text ++ data_numbers pages ≡ pages_below 0x3E00000 (is_text loads) ++ pages_below 0x3E00000 (is_data loads)
-    both = ap (λ ns. ns ++ data_numbers pages) texts ∙ ap (λ ns. pages_below 0x3E00000 (is_text loads) ++ ns) datas
+    both : text_numbers text ++ data_numbers pages ≡ pages_below DATA_END_PAGE (is_text loads) ++ pages_below DATA_END_PAGE (is_data loads)
+    both = ap (λ ns. ns ++ data_numbers pages) texts ∙ ap (λ ns. pages_below DATA_END_PAGE (is_text loads) ++ ns) datas
 
     aligned : (m : ℕ) (b : Bool) → ((m == 0) && b) ≡ true → m ≡ 0
     aligned m b e = grind (arith, nat_tests)

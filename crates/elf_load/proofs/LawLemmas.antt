@@ -9,8 +9,9 @@ use Rattle.elf_read.specs.declared.records.Segment.{Segment}
 use Rattle.elf_read.specs.Elf.{ElfValue, FitsFile}
 use Rattle.wf_outside.specs.declared.rules.LoadRule.TheVariants.{SharedPage}
 use Rattle.elf_load.specs.Segments.{is_load, loads_of, share_byte, clash}
-use Rattle.elf_load.specs.Rules.{first_fault, header_fault, shared_page, linked, write_and_run, high_address, too_large, entry_fault, first_of, fault_of}
-use Rattle.elf_load.specs.Loaded.{holds, given, byte_at}
+use Rattle.wf_outside.specs.Lists.{first_of}
+use Rattle.elf_load.specs.Rules.{fault_among, header_fault, shared_page, linked, write_and_run, high_address, too_large, entry_fault, fault_of}
+use Rattle.elf_load.specs.Loaded.{covers, given, byte_at}
 use Rattle.elf_load.proofs.PlacingLemmas.{none_here, none_behind}
 use Rattle.elf_load.proofs.FillingLemmas.{find_none, find-push}
 
@@ -20,18 +21,18 @@ Fit ss = AllByRecursion (λ s. s.p_filesz ≤ s.p_memsz) ss
 
 -- each segment of the list gives the bytes that it holds
 abbrev Gives : List ℕ → List Segment → Type 0
-Gives file ss = (s : Segment) (a : ℕ) → Contains ss s → holds s a ≡ true → byte_at file ss a ≡ given file s a
+Gives file ss = (s : Segment) (a : ℕ) → Contains ss s → covers s a ≡ true → byte_at file ss a ≡ given file s a
 
 -- two that hold one address share a byte
-holders_clash : (s t : Segment) (a : ℕ) → s.p_filesz ≤ s.p_memsz → t.p_filesz ≤ t.p_memsz → holds s a ≡ true → holds t a ≡ true → clash s t ≡ true
+holders_clash : (s t : Segment) (a : ℕ) → s.p_filesz ≤ s.p_memsz → t.p_filesz ≤ t.p_memsz → covers s a ≡ true → covers t a ≡ true → clash s t ≡ true
 holders_clash s t a fs ft hs ht = let both : share_byte s t ≡ true = grind (arith, nat_tests) in or_true (share_byte s t) _ both
   where
     or_true : (b c : Bool) → b ≡ true → (b || c) ≡ true
     or_true b c e = grind arith
 
-none_hold : (t : Segment) (ss : List Segment) (a : ℕ) → Fit ss → t.p_filesz ≤ t.p_memsz → holds t a ≡ true → list_any (λ s. clash s t) ss ≡ false → AllByRecursion (λ s. holds s a ≡ false) ss
+none_hold : (t : Segment) (ss : List Segment) (a : ℕ) → Fit ss → t.p_filesz ≤ t.p_memsz → covers t a ≡ true → list_any (λ s. clash s t) ss ≡ false → AllByRecursion (λ s. covers s a ≡ false) ss
 none_hold t [] a fit ft held none = tt
-none_hold t (s ∷ ss) a fit ft held none = (by_answer (holds s a) refl, none_hold t ss a fit.1 ft held (or_right (clash s t) _ none))
+none_hold t (s ∷ ss) a fit ft held none = (by_answer (covers s a) refl, none_hold t ss a fit.1 ft held (or_right (clash s t) _ none))
   where
     or_left : (b c : Bool) → (b || c) ≡ false → b ≡ false
     or_left b c e = grind arith
@@ -39,7 +40,7 @@ none_hold t (s ∷ ss) a fit ft held none = (by_answer (holds s a) refl, none_ho
     or_right : (b c : Bool) → (b || c) ≡ false → c ≡ false
     or_right b c e = grind arith
 
-    by_answer : (b : Bool) → holds s a ≡ b → holds s a ≡ false
+    by_answer : (b : Bool) → covers s a ≡ b → covers s a ≡ false
     by_answer true e = absurd (true≢false (sym (holders_clash s t a fit.0 ft e held) ∙ or_left (clash s t) _ none))
     by_answer false e = e
 
@@ -63,19 +64,19 @@ found_none p ss s has e = All-contains (λ t. p t ≡ false) ss s (All-from_recu
 gives-push : (file : List ℕ) (ss : List Segment) (t : Segment) → Fit ss → t.p_filesz ≤ t.p_memsz → list_any (λ s. clash s t) ss ≡ false → Gives file ss → Gives file (ss ++ t ∷ [])
 gives-push file ss t fit ft none gives = λ s a has held. by_place s a held (Contains-push_cases ss t s has)
   where
-    byte : (a : ℕ) (o : Option Segment) → find (λ s. holds s a) ss ≡ o → byte_at file (ss ++ t ∷ []) a ≡ option_map_or (λ s. given file s a) (option_or o (cond (holds t a) (Some t) None)) 0
-    byte a o e = ap (λ p. option_map_or (λ s. given file s a) p 0) (find-push (λ s. holds s a) ss t ∙ ap (λ p. option_or p (cond (holds t a) (Some t) None)) e)
+    byte : (a : ℕ) (o : Option Segment) → find (λ s. covers s a) ss ≡ o → byte_at file (ss ++ t ∷ []) a ≡ option_map_or (λ s. given file s a) (option_or o (cond (covers t a) (Some t) None)) 0
+    byte a o e = ap (λ p. option_map_or (λ s. given file s a) p 0) (find-push (λ s. covers s a) ss t ∙ ap (λ p. option_or p (cond (covers t a) (Some t) None)) e)
 
-    last : (a : ℕ) → holds t a ≡ true → byte_at file (ss ++ t ∷ []) a ≡ given file t a
-    last a h = byte a None (find_none (λ s. holds s a) ss (none_hold t ss a fit ft h none)) ∙ ap (λ b. option_map_or (λ s. given file s a) (cond b (Some t) None) 0) h
+    last : (a : ℕ) → covers t a ≡ true → byte_at file (ss ++ t ∷ []) a ≡ given file t a
+    last a h = byte a None (find_none (λ s. covers s a) ss (none_hold t ss a fit ft h none)) ∙ ap (λ b. option_map_or (λ s. given file s a) (cond b (Some t) None) 0) h
 
-    by_place : (s : Segment) (a : ℕ) → holds s a ≡ true → (Contains ss s ⊎ (t ≡ s)) → byte_at file (ss ++ t ∷ []) a ≡ given file s a
-    by_place s a held (inl has) = by_found (find (λ s. holds s a) ss) refl
+    by_place : (s : Segment) (a : ℕ) → covers s a ≡ true → (Contains ss s ⊎ (t ≡ s)) → byte_at file (ss ++ t ∷ []) a ≡ given file s a
+    by_place s a held (inl has) = by_found (find (λ s. covers s a) ss) refl
       where
-        by_found : (o : Option Segment) → find (λ s. holds s a) ss ≡ o → byte_at file (ss ++ t ∷ []) a ≡ given file s a
-        by_found None e = absurd (true≢false (sym held ∙ found_none (λ s. holds s a) ss s has e))
+        by_found : (o : Option Segment) → find (λ s. covers s a) ss ≡ o → byte_at file (ss ++ t ∷ []) a ≡ given file s a
+        by_found None e = absurd (true≢false (sym held ∙ found_none (λ s. covers s a) ss s has e))
         by_found (Some u) e = byte a (Some u) e ∙ sym (ap (λ o. option_map_or (λ s. given file s a) o 0) e) ∙ gives s a has held
-    by_place s a held (inr same) = last a (ap (λ u. holds u a) same ∙ held) ∙ ap (λ u. given file u a) same
+    by_place s a held (inr same) = last a (ap (λ u. covers u a) same ∙ held) ∙ ap (λ u. given file u a) same
 
 load_fits : (size : ℕ) (s : Segment) → FitsFile size s → is_load s ≡ true → s.p_filesz ≤ s.p_memsz
 load_fits size s fit load = let kind : s.p_type ≡ 1 = grind (arith, nat_tests) in (fit kind).in_memory
@@ -94,7 +95,7 @@ all-push P (y ∷ xs) x all here = (all.0, all-push P xs x all.1 here)
 
 -- one header after another
 give_on : (bytes : List ℕ) (size : ℕ) (before ss : List Segment) → AllByRecursion (FitsFile size) before → AllByRecursion (FitsFile size) ss
-    → first_fault shared_page bytes before ss ≡ None → Gives bytes (loads_of before) → Gives bytes (loads_of (before ++ ss))
+    → fault_among shared_page bytes before ss ≡ None → Gives bytes (loads_of before) → Gives bytes (loads_of (before ++ ss))
 give_on bytes size before [] fb fs none gives = subst (λ (ts : List Segment). Gives bytes (loads_of ts)) (sym (append-nil before)) gives
 give_on bytes size before (s ∷ ss) fb fs none gives =
     subst (λ (ts : List Segment). Gives bytes (loads_of ts)) (append_assoc before (s ∷ []) ss)
@@ -134,5 +135,5 @@ parts_stand elf s k fit none has lt =
     nothing : Gives elf.bytes []
     nothing s a has held = absurd (omega (arith, has.1))
 
-    held : holds s (s.p_vaddr + k) ≡ true
+    held : covers s (s.p_vaddr + k) ≡ true
     held = grind (arith, nat_tests)

@@ -6,7 +6,7 @@ use Rattle.std.specs.List.Sorted.{IsPartitionPoint, IsPartitionedBy}
 use Rattle.std.proofs.lemmas.Bool.Decides.{nat_tests}
 use Rattle.elf_read.specs.declared.records.Segment.{Segment}
 use Rattle.elf_load.specs.Segments.{is_load, first_page, page_after, meets}
-use Rattle.elf_load.specs.Placing.{goes_before, IsRising}
+use Rattle.elf_load.specs.Placing.{goes_before, AreInOrder}
 use Rattle.elf_load.proofs.PlacingLemmas.{load_pages, pages_rise, next_page, goes_ends, no_segment}
 use Rattle.elf_load.proofs.PagingLemmas.{AreLoads}
 
@@ -23,7 +23,7 @@ all_at P (x ∷ xs) zero d all lt = all.0
 all_at P (x ∷ xs) (suc i) d all lt = all_at P xs i d all.1 (omega arith)
 
 -- what holds of a later one holds of an earlier one
-passed_on : (p : Segment → Bool) → ((s t : Segment) → is_load s ≡ true → is_load t ≡ true → goes_before s t ≡ true → p t ≡ true → p s ≡ true) → (ss : List Segment) → AreLoads ss → IsRising ss → IsPartitionedBy p ss
+passed_on : (p : Segment → Bool) → ((s t : Segment) → is_load s ≡ true → is_load t ≡ true → goes_before s t ≡ true → p t ≡ true → p s ≡ true) → (ss : List Segment) → AreLoads ss → AreInOrder ss → IsPartitionedBy p ss
 passed_on p on [] loads rising i j d le lt h = absurd (omega arith)
 passed_on p on (s ∷ ss) loads rising zero zero d le lt h = h
 passed_on p on (s ∷ ss) loads rising zero (suc j) d le lt h =
@@ -31,13 +31,13 @@ passed_on p on (s ∷ ss) loads rising zero (suc j) d le lt h =
 passed_on p on (s ∷ ss) loads rising (suc i) zero d le lt h = absurd (omega arith)
 passed_on p on (s ∷ ss) loads rising (suc i) (suc j) d le lt h = passed_on p on ss loads.1 rising.1 i j d (omega arith) (omega arith) h
 
-pub ended_parts : (n : ℕ) (ss : List Segment) → AreLoads ss → IsRising ss → IsPartitionedBy (λ s. nat_le (page_after s) n) ss
+pub ended_parts : (n : ℕ) (ss : List Segment) → AreLoads ss → AreInOrder ss → IsPartitionedBy (λ s. nat_le (page_after s) n) ss
 ended_parts n ss loads rising = passed_on (λ s. nat_le (page_after s) n) on ss loads rising
   where
     on : (s t : Segment) → is_load s ≡ true → is_load t ≡ true → goes_before s t ≡ true → nat_le (page_after t) n ≡ true → nat_le (page_after s) n ≡ true
     on s t h k before le = let rise : page_after s ≤ page_after t = after_rises s t k before in grind (arith, nat_tests)
 
-pub begun_parts : (n : ℕ) (ss : List Segment) → AreLoads ss → IsRising ss → IsPartitionedBy (λ s. nat_le (first_page s) n) ss
+pub begun_parts : (n : ℕ) (ss : List Segment) → AreLoads ss → AreInOrder ss → IsPartitionedBy (λ s. nat_le (first_page s) n) ss
 begun_parts n ss loads rising = passed_on (λ s. nat_le (first_page s) n) on ss loads rising
   where
     on : (s t : Segment) → is_load s ≡ true → is_load t ≡ true → goes_before s t ≡ true → nat_le (first_page t) n ≡ true → nat_le (first_page s) n ≡ true

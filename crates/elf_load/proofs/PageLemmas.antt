@@ -6,9 +6,9 @@ use Rattle.std.specs.Option.{option_map_or}
 use Rattle.std.proofs.lemmas.Bool.Decides.{nat_tests}
 use Rattle.elf_read.specs.declared.records.Segment.{Segment}
 use Rattle.wf_outside.specs.Pages.{PageValue, DataPageValue}
-use Rattle.elf_load.specs.Segments.{end_of, meets, is_executable, is_writable, is_text, may_write}
-use Rattle.elf_load.specs.Placing.{is_placeable, goes_before, IsRising}
-use Rattle.elf_load.specs.Loaded.{holds, given, byte_at, bytes_at, words_in, page_words, text_page, data_page}
+use Rattle.elf_load.specs.Segments.{segment_end, meets, is_executable, is_writable, is_text, may_write}
+use Rattle.elf_load.specs.Placing.{is_placeable, goes_before, AreInOrder}
+use Rattle.elf_load.specs.Loaded.{covers, given, byte_at, bytes_at, words_in, page_words, loaded_text, loaded_data}
 use Rattle.elf_load.proofs.FillingLemmas.{fits_memory}
 
 -- what holds of each holds of each that is kept
@@ -20,11 +20,11 @@ all-filter P q (s ∷ ss) all = by_test (q s) (all-filter P q ss all.1)
     by_test true rest = (all.0, rest)
     by_test false rest = rest
 
-pub rising-filter : (q : Segment → Bool) (ss : List Segment) → IsRising ss → IsRising (filter q ss)
+pub rising-filter : (q : Segment → Bool) (ss : List Segment) → AreInOrder ss → AreInOrder (filter q ss)
 rising-filter q [] rising = tt
 rising-filter q (s ∷ ss) rising = by_test (q s) (rising-filter q ss rising.1)
   where
-    by_test : (b : Bool) → IsRising (filter q ss) → IsRising (cond b (s ∷ filter q ss) (filter q ss))
+    by_test : (b : Bool) → AreInOrder (filter q ss) → AreInOrder (cond b (s ∷ filter q ss) (filter q ss))
     by_test true rest = (all-filter (λ t. goes_before s t ≡ true) q ss rising.0, rest)
     by_test false rest = rest
 
@@ -52,17 +52,17 @@ find-filter p q (s ∷ ss) all = by_test (q s) (p s) refl refl (find-filter p q 
     by_test false false b c e = e
 
 -- what holds an address of a page meets it
-holds_meets : (size : ℕ) (s : Segment) (n a : ℕ) → is_placeable size s ≡ true → 4096 * n ≤ a → a < 4096 * n + 4096 → holds s a ≡ true → meets s n ≡ true
+holds_meets : (size : ℕ) (s : Segment) (n a : ℕ) → is_placeable size s ≡ true → 4096 * n ≤ a → a < 4096 * n + 4096 → covers s a ≡ true → meets s n ≡ true
 holds_meets size s n a h lo hi held =
     let fits : s.p_filesz ≤ s.p_memsz = fits_memory size s h in
     let from : s.p_vaddr ≤ a = grind (arith, nat_tests) in
     let to : a < s.p_vaddr + s.p_filesz = grind (arith, nat_tests) in
     meets_there (omega arith) (omega arith)
   where
-    meets_there : s.p_vaddr / 4096 ≤ n → n < (end_of s + 4095) / 4096 → meets s n ≡ true
+    meets_there : s.p_vaddr / 4096 ≤ n → n < (segment_end s + 4095) / 4096 → meets s n ≡ true
     meets_there h k = grind (arith, nat_tests)
 
-all_hold : (size : ℕ) (ss : List Segment) (n a : ℕ) → AllByRecursion (λ s. is_placeable size s ≡ true) ss → 4096 * n ≤ a → a < 4096 * n + 4096 → AllByRecursion (λ s. holds s a ≡ true → meets s n ≡ true) ss
+all_hold : (size : ℕ) (ss : List Segment) (n a : ℕ) → AllByRecursion (λ s. is_placeable size s ≡ true) ss → 4096 * n ≤ a → a < 4096 * n + 4096 → AllByRecursion (λ s. covers s a ≡ true → meets s n ≡ true) ss
 all_hold size [] n a each lo hi = tt
 all_hold size (s ∷ ss) n a each lo hi = (holds_meets size s n a each.0 lo hi, all_hold size ss n a each.1 lo hi)
 
@@ -79,7 +79,7 @@ bytes_alike file ss ts a n h = map_alike (byte_at file ss) (byte_at file ts) a n
 pub words-filter : (file : List ℕ) (ss : List Segment) (n : ℕ) → AllByRecursion (λ s. is_placeable (length file) s ≡ true) ss → page_words file (filter (λ s. meets s n) ss) n ≡ page_words file ss n
 words-filter file ss n each =
     ap (words_in 512) (bytes_alike file (filter (λ s. meets s n) ss) ss (4096 * n) 4096
-    (λ a lo hi. ap (λ o. option_map_or (λ s. given file s a) o 0) (find-filter (λ s. holds s a) (λ s. meets s n) ss (all_hold (length file) ss n a each lo hi))))
+    (λ a lo hi. ap (λ o. option_map_or (λ s. given file s a) o 0) (find-filter (λ s. covers s a) (λ s. meets s n) ss (all_hold (length file) ss n a each lo hi))))
 
 -- ---- what the segments on a page tell of it
 
@@ -96,14 +96,14 @@ words_told file loads here n words each e f = f ∙ ap (λ ss. page_words file s
 -- a page of text
 pub is_text_page : (file : List ℕ) (loads here : List Segment) (n : ℕ) (words : List ℕ) (text : Bool) → AllByRecursion (λ s. is_placeable (length file) s ≡ true) loads
     → here ≡ filter (λ s. meets s n) loads → words ≡ page_words file here n → text ≡ list_any is_executable here → text ≡ true → (before : List PageValue)
-    → (let page : PageValue = record { number = n; words = words } in before ++ page ∷ [] ≡ before ++ cond (is_text loads n) (text_page file loads n ∷ []) [])
+    → (let page : PageValue = record { number = n; words = words } in before ++ page ∷ [] ≡ before ++ cond (is_text loads n) (loaded_text file loads n ∷ []) [])
 is_text_page file loads here n words text each e f g h before =
     let t : is_text loads n ≡ true = sym (text_told loads here n e) ∙ sym g ∙ h in
     let w : words ≡ page_words file loads n = words_told file loads here n words each e f in
     rw (t, w) refl
 
 pub no_data_page : (file : List ℕ) (loads here : List Segment) (n : ℕ) (text : Bool) → here ≡ filter (λ s. meets s n) loads → text ≡ list_any is_executable here → text ≡ true → (before : List DataPageValue)
-    → before ≡ before ++ cond (is_text loads n) [] (data_page file loads n ∷ [])
+    → before ≡ before ++ cond (is_text loads n) [] (loaded_data file loads n ∷ [])
 no_data_page file loads here n text e g h before =
     let t : is_text loads n ≡ true = sym (text_told loads here n e) ∙ sym g ∙ h in
     rw t (sym (append-nil before))
@@ -111,7 +111,7 @@ no_data_page file loads here n text e g h before =
 -- a page of data
 pub is_data_page : (file : List ℕ) (loads here : List Segment) (n : ℕ) (words : List ℕ) (text write : Bool) → AllByRecursion (λ s. is_placeable (length file) s ≡ true) loads
     → here ≡ filter (λ s. meets s n) loads → words ≡ page_words file here n → text ≡ list_any is_executable here → write ≡ list_any is_writable here → text ≡ false → (before : List DataPageValue)
-    → (let page : DataPageValue = record { number = n; write = write; words = words } in before ++ page ∷ [] ≡ before ++ cond (is_text loads n) [] (data_page file loads n ∷ []))
+    → (let page : DataPageValue = record { number = n; write = write; words = words } in before ++ page ∷ [] ≡ before ++ cond (is_text loads n) [] (loaded_data file loads n ∷ []))
 is_data_page file loads here n words text write each e f g i h before =
     let t : is_text loads n ≡ false = sym (text_told loads here n e) ∙ sym g ∙ h in
     let w : words ≡ page_words file loads n = words_told file loads here n words each e f in
@@ -119,7 +119,7 @@ is_data_page file loads here n words text write each e f g i h before =
     rw (t, w, m) refl
 
 pub no_text_page : (file : List ℕ) (loads here : List Segment) (n : ℕ) (text : Bool) → here ≡ filter (λ s. meets s n) loads → text ≡ list_any is_executable here → text ≡ false → (before : List PageValue)
-    → before ≡ before ++ cond (is_text loads n) (text_page file loads n ∷ []) []
+    → before ≡ before ++ cond (is_text loads n) (loaded_text file loads n ∷ []) []
 no_text_page file loads here n text e g h before =
     let t : is_text loads n ≡ false = sym (text_told loads here n e) ∙ sym g ∙ h in
     rw t (sym (append-nil before))

@@ -6,8 +6,9 @@ use Rattle.std.specs.List.{AllByRecursion, filter, range_with_len}
 use Rattle.std.proofs.lemmas.List.Elements.{filter-append}
 use Rattle.std.proofs.lemmas.Bool.Decides.{nat_tests}
 use Rattle.elf_read.specs.declared.records.Segment.{Segment}
-use Rattle.elf_load.specs.Segments.{is_load, end_of, first_page, page_after, meets, is_met}
-use Rattle.elf_load.specs.Placing.{goes_before, IsRising, is_placeable}
+use Rattle.wf_outside.specs.declared.sizes.TheConstants.{DATA_END, DATA_END_PAGE}
+use Rattle.elf_load.specs.Segments.{is_load, segment_end, first_page, page_after, meets, is_met}
+use Rattle.elf_load.specs.Placing.{goes_before, AreInOrder, is_placeable}
 use Rattle.elf_load.proofs.PlacingLemmas.{load_pages, pages_rise, next_page, goes_ends}
 use Rattle.elf_load.specs.Loaded.{pages_below}
 
@@ -86,7 +87,7 @@ none_met s (t ∷ ss) n h all lt = rw (not_met) (none_met s ss n h all.1 lt)
     not_met = let p : first_page s ≤ first_page t = pages_rise s t h all.0 in grind (arith, nat_tests)
 
 -- the pages from one on that the segments meet
-numbers_met : (next n : ℕ) (ss : List Segment) → AreLoads ss → IsRising ss → EndBy n ss → next ≤ n → AllByRecursion (λ s. next ≤ first_page s + 1) ss → numbers_from next ss ≡ filter (is_met ss) (range_with_len next (n - next))
+numbers_met : (next n : ℕ) (ss : List Segment) → AreLoads ss → AreInOrder ss → EndBy n ss → next ≤ n → AllByRecursion (λ s. next ≤ first_page s + 1) ss → numbers_from next ss ≡ filter (is_met ss) (range_with_len next (n - next))
 numbers_met next n [] loads rising low le near = sym (filter_none (is_met []) next (n - next) (λ k lo hi. refl))
 numbers_met next n (s ∷ ss) loads rising low le near =
     sym (filter_parts (is_met (s ∷ ss)) next from after n (omega arith) (from_below (near.0)) low.0
@@ -149,25 +150,25 @@ are_loads size (s ∷ ss) each = (left (is_load s) _ _ _ each.0, are_loads size 
     left a b c d e = grind arith
 
 -- what is placed ends below the stacks
-pub ends_low : (size : ℕ) (s : Segment) → is_placeable size s ≡ true → end_of s ≤ 0x3E00000000
-ends_low size s h = low (is_load s) (end_of s) 0x3E00000000 _ _ h
+pub ends_low : (size : ℕ) (s : Segment) → is_placeable size s ≡ true → segment_end s ≤ DATA_END
+ends_low size s h = low (is_load s) (segment_end s) DATA_END _ _ h
   where
     low : (a : Bool) (m n : ℕ) (c d : Bool) → (((a && nat_le m n) && c) && d) ≡ true → m ≤ n
     low a m n c d e = grind (arith, nat_tests)
 
-pub end_low : (size : ℕ) (ss : List Segment) → AllByRecursion (λ s. is_placeable size s ≡ true) ss → EndBy 0x3E00000 ss
+pub end_low : (size : ℕ) (ss : List Segment) → AllByRecursion (λ s. is_placeable size s ≡ true) ss → EndBy DATA_END_PAGE ss
 end_low size [] each = tt
 end_low size (s ∷ ss) each = (low (ends_low size s each.0), end_low size ss each.1)
   where
-    low : end_of s ≤ 0x3E00000000 → page_after s ≤ 0x3E00000
+    low : segment_end s ≤ DATA_END → page_after s ≤ DATA_END_PAGE
     low h = omega arith
 
-numbers_below : (n : ℕ) (ss : List Segment) → AreLoads ss → IsRising ss → EndBy n ss → numbers_from 0 ss ≡ pages_below n (is_met ss)
+numbers_below : (n : ℕ) (ss : List Segment) → AreLoads ss → AreInOrder ss → EndBy n ss → numbers_from 0 ss ≡ pages_below n (is_met ss)
 unfolding pages_below
 numbers_below n ss loads rising low = numbers_met 0 n ss loads rising low (omega arith) (near_zero ss) ∙ ap (λ m. filter (is_met ss) (range_with_len 0 m)) (omega arith)
 
 -- all numbers are there
-pub numbers_all : (i : ℕ) (numbers : List ℕ) (next : ℕ) (ss : List Segment) → IsRising ss → AreLoads ss → EndBy 0x3E00000 ss → length ss ≤ i
-    → numbers ++ numbers_from next (drop i ss) ≡ numbers_from 0 ss → numbers ≡ pages_below 0x3E00000 (is_met ss)
+pub numbers_all : (i : ℕ) (numbers : List ℕ) (next : ℕ) (ss : List Segment) → AreInOrder ss → AreLoads ss → EndBy DATA_END_PAGE ss → length ss ≤ i
+    → numbers ++ numbers_from next (drop i ss) ≡ numbers_from 0 ss → numbers ≡ pages_below DATA_END_PAGE (is_met ss)
 numbers_all i numbers next ss rising loads low done all =
-    sym (append-nil numbers) ∙ sym (ap (λ xs. numbers ++ numbers_from next xs) (drop_all i ss done)) ∙ all ∙ numbers_below 0x3E00000 ss loads rising low
+    sym (append-nil numbers) ∙ sym (ap (λ xs. numbers ++ numbers_from next xs) (drop_all i ss done)) ∙ all ∙ numbers_below DATA_END_PAGE ss loads rising low

@@ -18,9 +18,10 @@ use Rattle.elf_read.specs.declared.records.Segment.{Segment}
 use Rattle.elf_read.specs.Elf.{FitsFile, IsInFile}
 use Rattle.wf_outside.specs.declared.rules.LoadRule.{LoadRule}
 use Rattle.wf_outside.specs.declared.rules.LoadRule.TheVariants.{HighAddress}
-use Rattle.elf_load.specs.Rules.{first_fault, high_address}
-use Rattle.elf_load.specs.Segments.{is_load, loads_of, is_executable, end_of, first_page, page_after, share_byte, clash}
-use Rattle.elf_load.specs.Placing.{goes_before, IsRising, is_placeable, HasSame, IsKeyed, ArePlaced}
+use Rattle.wf_outside.specs.declared.sizes.TheConstants.{DATA_END}
+use Rattle.elf_load.specs.Rules.{fault_among, high_address}
+use Rattle.elf_load.specs.Segments.{is_load, loads_of, is_executable, segment_end, first_page, page_after, share_byte, clash}
+use Rattle.elf_load.specs.Placing.{goes_before, AreInOrder, is_placeable, HasSame, IsKeyed, ArePlaced}
 
 -- with addresses and pages as plain numbers
 plain_goes : (a b c d p q r u : ℕ) (x y : Bool) → a ≤ c → a < b → c < d → p ≤ r → p < q → r < u
@@ -40,7 +41,7 @@ pub goes_or_clashes : (s t : Segment) → is_load s ≡ true → is_load t ≡ t
 goes_or_clashes s t h k le =
     let m : 0 < s.p_memsz = load_size s h in
     let n : 0 < t.p_memsz = load_size t k in
-    plain_goes s.p_vaddr (end_of s) t.p_vaddr (end_of t) (first_page s) (page_after s) (first_page t) (page_after t) (is_executable s) (is_executable t)
+    plain_goes s.p_vaddr (segment_end s) t.p_vaddr (segment_end t) (first_page s) (page_after s) (first_page t) (page_after t) (is_executable s) (is_executable t)
     le (omega arith) (omega arith) (omega arith) (load_pages s h) (load_pages t k)
 
 plain_chain : (b c d e q r u v : ℕ) (x y z : Bool) → c < d → r < u → (b ≤ c → q ≤ r + 1) → (d ≤ e → u ≤ v + 1)
@@ -48,19 +49,19 @@ plain_chain : (b c d e q r u v : ℕ) (x y z : Bool) → c < d → r < u → (b 
 plain_chain b c d e q r u v x y z h1 h2 h3 h4 h5 h6 = grind (arith, nat_tests)
 
 -- what ends at an address meets no page behind that address
-pub next_page : (s t : Segment) → end_of s ≤ t.p_vaddr → page_after s ≤ first_page t + 1
+pub next_page : (s t : Segment) → segment_end s ≤ t.p_vaddr → page_after s ≤ first_page t + 1
 next_page s t h = omega arith
 
 -- before what goes before
 pub goes_on : (s t u : Segment) → is_load t ≡ true → goes_before s t ≡ true → goes_before t u ≡ true → goes_before s u ≡ true
 goes_on s t u h first second =
     let m : 0 < t.p_memsz = load_size t h in
-    plain_chain (end_of s) t.p_vaddr (end_of t) u.p_vaddr (page_after s) (first_page t) (page_after t) (first_page u) (is_executable s) (is_executable t) (is_executable u)
+    plain_chain (segment_end s) t.p_vaddr (segment_end t) u.p_vaddr (page_after s) (first_page t) (page_after t) (first_page u) (is_executable s) (is_executable t) (is_executable u)
     (omega arith) (load_pages t h) (next_page s t) (next_page t u) first second
 
 -- what goes before ends before
-pub goes_ends : (s t : Segment) → goes_before s t ≡ true → end_of s ≤ t.p_vaddr
-goes_ends s t before = ends (end_of s) t.p_vaddr _ before
+pub goes_ends : (s t : Segment) → goes_before s t ≡ true → segment_end s ≤ t.p_vaddr
+goes_ends s t before = ends (segment_end s) t.p_vaddr _ before
   where
     ends : (a b : ℕ) (c : Bool) → (nat_le a b && c) ≡ true → a ≤ b
     ends a b c e = grind (arith, nat_tests)
@@ -68,7 +69,7 @@ goes_ends s t before = ends (end_of s) t.p_vaddr _ before
 pub pages_rise : (s t : Segment) → is_load s ≡ true → goes_before s t ≡ true → first_page s ≤ first_page t
 pages_rise s t h before =
     let m : 0 < s.p_memsz = load_size s h in
-    let le : end_of s ≤ t.p_vaddr = goes_ends s t before in
+    let le : segment_end s ≤ t.p_vaddr = goes_ends s t before in
     omega arith
 
 -- it doesn't matter which comes first
@@ -195,7 +196,7 @@ upper_follows s ss = option_map_or (λ u. goes_before s u) (slice_get (filter (i
 
 -- t is the last that is below s so far
 last_tells : (s t : Segment) (ss : List Segment) → is_load s ≡ true → is_load t ≡ true → AreLoads ss → t.p_vaddr < s.p_vaddr
-    → AllByRecursion (λ u. goes_before t u ≡ true) ss → IsRising ss
+    → AllByRecursion (λ u. goes_before t u ≡ true) ss → AreInOrder ss
     → (lower_goes s (last_or (Some t) (filter (is_below s) ss)) && upper_follows s ss) ≡ not (clash t s || list_any (λ u. clash u s) ss)
 last_tells s t [] h k loads lt all rising = by_answer (goes_before t s) (clash t s) (goes_or_clashes t s k h (omega arith))
   where
@@ -232,7 +233,7 @@ last_tells s t (u ∷ ss) h k loads lt all rising =
         (with_upper (goes_before t s) (clash t s) (goes_before s u) (clash u s) (list_any (λ x. clash x s) ss) (goes_or_clashes t s k h (omega arith)) (first_tells s u ss h loads.0 loads.1 over rising.0))
 
 -- the last below a segment and the first behind tell whether it clashes with one
-pub neighbours_tell : (s : Segment) (ss : List Segment) → is_load s ≡ true → AreLoads ss → IsRising ss
+pub neighbours_tell : (s : Segment) (ss : List Segment) → is_load s ≡ true → AreLoads ss → AreInOrder ss
     → (lower_goes s (last_or None (filter (is_below s) ss)) && upper_follows s ss) ≡ not (list_any (λ u. clash u s) ss)
 neighbours_tell s [] h loads rising = refl
 neighbours_tell s (t ∷ ss) h loads rising = by_place (is_below s t) refl
@@ -249,17 +250,17 @@ neighbours_tell s (t ∷ ss) h loads rising = by_place (is_below s t) refl
         rw (b, none_below s t ss loads.0 over rising.0, f) (first_tells s t ss h loads.0 loads.1 over rising.0)
 
 -- x and y are what the neighbours tell
-fit_told : (s : Segment) (ss : List Segment) (lower upper : Option Segment) (x y : Bool) → is_load s ≡ true → AreLoads ss → IsRising ss
+fit_told : (s : Segment) (ss : List Segment) (lower upper : Option Segment) (x y : Bool) → is_load s ≡ true → AreLoads ss → AreInOrder ss
     → lower ≡ last_or None (filter (is_below s) ss) → upper ≡ slice_get (filter (is_from s) ss) 0 → x ≡ lower_goes s lower → y ≡ option_map_or (λ u. goes_before s u) upper true
     → (x && y) ≡ not (list_any (λ u. clash u s) ss)
 fit_told s ss lower upper x y h loads rising l u e f = simp (e, f, l, u) (neighbours_tell s ss h loads rising)
 
-pub fits_then : (s : Segment) (ss : List Segment) (lower upper : Option Segment) (x y : Bool) → is_load s ≡ true → AreLoads ss → IsRising ss
+pub fits_then : (s : Segment) (ss : List Segment) (lower upper : Option Segment) (x y : Bool) → is_load s ≡ true → AreLoads ss → AreInOrder ss
     → lower ≡ last_or None (filter (is_below s) ss) → upper ≡ slice_get (filter (is_from s) ss) 0 → x ≡ lower_goes s lower → y ≡ option_map_or (λ u. goes_before s u) upper true
     → x ≡ true → y ≡ not (list_any (λ u. clash u s) ss)
 fits_then s ss lower upper x y h loads rising l u e f is = rw is at (fit_told s ss lower upper x y h loads rising l u e f)
 
-pub fits_else : (s : Segment) (ss : List Segment) (lower : Option Segment) (x : Bool) → is_load s ≡ true → AreLoads ss → IsRising ss
+pub fits_else : (s : Segment) (ss : List Segment) (lower : Option Segment) (x : Bool) → is_load s ≡ true → AreLoads ss → AreInOrder ss
     → lower ≡ last_or None (filter (is_below s) ss) → x ≡ lower_goes s lower → x ≡ false → x ≡ not (list_any (λ u. clash u s) ss)
 fits_else s ss lower x h loads rising l e is = is ∙ rw is at (fit_told s ss lower _ x _ h loads rising l refl e refl)
 
@@ -323,8 +324,8 @@ all_behind : (s t : Segment) (ss : List Segment) → is_load t ≡ true → goes
 all_behind s t [] h first all = tt
 all_behind s t (u ∷ ss) h first all = (goes_on s t u h first all.0, all_behind s t ss h first all.1)
 
-rising-insert : (s : Segment) (es : List (ℕ × Segment)) → is_load s ≡ true → AreKeyed es → AreLoads (values_of es) → ClashesNot s (values_of es) → NoneAt s.p_vaddr es → IsRising (values_of es)
-    → IsRising (values_of (insert_entry nat_cmp es s.p_vaddr s))
+rising-insert : (s : Segment) (es : List (ℕ × Segment)) → is_load s ≡ true → AreKeyed es → AreLoads (values_of es) → ClashesNot s (values_of es) → NoneAt s.p_vaddr es → AreInOrder (values_of es)
+    → AreInOrder (values_of (insert_entry nat_cmp es s.p_vaddr s))
 rising-insert s [] h keys loads apart none rising = (tt, tt)
 rising-insert s (e ∷ es) h keys loads apart none rising = by_order (nat_cmp s.p_vaddr e.0) refl (rising-insert s es h keys.1 loads.1 (or_right _ _ apart) none.1 rising.1)
   where
@@ -343,8 +344,8 @@ rising-insert s (e ∷ es) h keys loads apart none rising = by_order (nat_cmp s.
         let le : e.1.p_vaddr ≤ s.p_vaddr = grind (arith, nat_tests) in
         goes_or_clashes e.1 s loads.0 h le ∙ ap not mine
 
-    by_order : (o : Ordering) → nat_cmp s.p_vaddr e.0 ≡ o → IsRising (values_of (insert_entry nat_cmp es s.p_vaddr s))
-        → IsRising (values_of (match_ordering o ((s.p_vaddr, s) ∷ e ∷ es) ((e.0, s) ∷ es) (e ∷ insert_entry nat_cmp es s.p_vaddr s)))
+    by_order : (o : Ordering) → nat_cmp s.p_vaddr e.0 ≡ o → AreInOrder (values_of (insert_entry nat_cmp es s.p_vaddr s))
+        → AreInOrder (values_of (match_ordering o ((s.p_vaddr, s) ∷ e ∷ es) ((e.0, s) ∷ es) (e ∷ insert_entry nat_cmp es s.p_vaddr s)))
     by_order Less is rest = ((before is, all_behind s e.1 (values_of es) loads.0 (before is) rising.0), rising)
     by_order Equal is rest = absurd (none.0 is)
     by_order Greater is rest = (all-insert (λ u. goes_before e.1 u ≡ true) s.p_vaddr s es (behind is) rising.0, rest)
@@ -423,26 +424,26 @@ none_behind f true rule o e = cc
 none_behind f false rule o e = e
 
 -- each that is loaded ends low
-none_high : (bytes : List ℕ) (before ss : List Segment) → first_fault high_address bytes before ss ≡ None → AllByRecursion (λ s. is_load s ≡ true → end_of s ≤ 0x3E00000000) ss
+none_high : (bytes : List ℕ) (before ss : List Segment) → fault_among high_address bytes before ss ≡ None → AllByRecursion (λ s. is_load s ≡ true → segment_end s ≤ DATA_END) ss
 none_high bytes before [] none = tt
-none_high bytes before (s ∷ ss) none = (low, none_high bytes (before ++ s ∷ []) ss (none_behind _ (is_load s && nat_lt 0x3E00000000 (end_of s)) HighAddress _ none))
+none_high bytes before (s ∷ ss) none = (low, none_high bytes (before ++ s ∷ []) ss (none_behind _ (is_load s && nat_lt DATA_END (segment_end s)) HighAddress _ none))
   where
-    low : is_load s ≡ true → end_of s ≤ 0x3E00000000
-    low load = not_high (is_load s) load (none_here _ (is_load s && nat_lt 0x3E00000000 (end_of s)) HighAddress _ none)
+    low : is_load s ≡ true → segment_end s ≤ DATA_END
+    low load = not_high (is_load s) load (none_here _ (is_load s && nat_lt DATA_END (segment_end s)) HighAddress _ none)
       where
-        not_high : (b : Bool) → b ≡ true → (b && nat_lt 0x3E00000000 (end_of s)) ≡ false → end_of s ≤ 0x3E00000000
+        not_high : (b : Bool) → b ≡ true → (b && nat_lt DATA_END (segment_end s)) ≡ false → segment_end s ≤ DATA_END
         not_high b e f = grind (arith, nat_tests)
 
 load_type : (s : Segment) → is_load s ≡ true → s.p_type ≡ 1
 load_type s load = grind (arith, nat_tests)
 
-placeable : (size : ℕ) (s : Segment) → is_load s ≡ true → end_of s ≤ 0x3E00000000 → IsInFile size s → is_placeable size s ≡ true
+placeable : (size : ℕ) (s : Segment) → is_load s ≡ true → segment_end s ≤ DATA_END → IsInFile size s → is_placeable size s ≡ true
 placeable size s load low fit =
     let in_file : s.p_offset + s.p_filesz ≤ size = fit.in_file in
     let in_memory : s.p_filesz ≤ s.p_memsz = fit.in_memory in
     rw load (grind (arith, nat_tests))
 
-all_placeable : (size : ℕ) (ss : List Segment) → AllByRecursion (λ s. is_load s ≡ true → end_of s ≤ 0x3E00000000) ss → AllByRecursion (FitsFile size) ss → AllByRecursion (λ s. is_placeable size s ≡ true) (loads_of ss)
+all_placeable : (size : ℕ) (ss : List Segment) → AllByRecursion (λ s. is_load s ≡ true → segment_end s ≤ DATA_END) ss → AllByRecursion (FitsFile size) ss → AllByRecursion (λ s. is_placeable size s ≡ true) (loads_of ss)
 all_placeable size [] low fit = tt
 all_placeable size (s ∷ ss) low fit = by_test (is_load s) refl (all_placeable size ss low.1 fit.1)
   where
@@ -467,8 +468,8 @@ all_same test ss ts same all = none_fail ss (same (λ s. not (test s)) ∙ fail_
     none_fail (s ∷ ss) e = (passes (test s) (or_left _ _ e), none_fail ss (or_right _ _ e))
 
 -- all headers are placed
-pub all_placed : (bytes : List ℕ) (items segments placed : List Segment) (i : ℕ) → items ≡ segments → length items ≤ i → first_fault high_address bytes [] segments ≡ None
-    → All (FitsFile (length bytes)) segments → HasSame placed (loads_of (take i segments)) → IsRising placed → ArePlaced (length bytes) (loads_of segments) placed
+pub all_placed : (bytes : List ℕ) (items segments placed : List Segment) (i : ℕ) → items ≡ segments → length items ≤ i → fault_among high_address bytes [] segments ≡ None
+    → All (FitsFile (length bytes)) segments → HasSame placed (loads_of (take i segments)) → AreInOrder placed → ArePlaced (length bytes) (loads_of segments) placed
 all_placed bytes items segments placed i e done low fit same rising =
     let all : HasSame placed (loads_of segments) = subst (λ (ss : List Segment). HasSame placed (loads_of ss)) (take_all i segments (omega (arith, ap length e))) same in
     record {

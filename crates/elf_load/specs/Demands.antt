@@ -6,7 +6,7 @@ use Rattle.elf_load.specs.declared.rules.Demand.{Demand}
 use Rattle.elf_load.specs.declared.rules.Demand.TheVariants.{Linked, Rights, Low}
 use Rattle.elf_load.specs.Rules.{linked, write_and_run, high_address}
 
--- the line of the table
+-- what a header breaks that does not meet the demand
 abbrev pub breaks_of : Demand → List Segment → Segment → Option LoadRule
 breaks_of Linked = linked
 breaks_of Rights = write_and_run

@@ -1,5 +1,5 @@
 -- The rules of loading, and the first that a file breaks.
-use Rattle.std.specs.Prelude.{◌≡◌, ℕ, List, [], ◌∷◌, ◌++◌, ◌&&◌, ◌+◌, ◌/◌, ◌%◌, ◌==◌, Option, Some, None, if◌then◌else◌, length, sum_by, nat_lt}
+use Rattle.std.specs.Prelude.{◌≡◌, ℕ, List, [], ◌∷◌, ◌++◌, ◌&&◌, ◌+◌, ◌%◌, ◌==◌, Option, Some, None, if◌then◌else◌, length, sum_by, nat_lt}
 use Rattle.std.specs.Bool.{then_some}
 use Rattle.std.specs.List.{list_any}
 use Rattle.std.specs.Option.{option_or, option_map}
@@ -7,59 +7,70 @@ use Rattle.elf_read.specs.declared.records.Segment.{Segment}
 use Rattle.elf_read.specs.Elf.{ElfValue, segment_place}
 use Rattle.wf_outside.specs.declared.rules.LoadRule.{LoadRule}
 use Rattle.wf_outside.specs.declared.rules.LoadRule.TheVariants.{TlsSegment, Interp, Dynamic, WriteAndRun, HighAddress, TooLarge, SharedPage, NoEntry}
+use Rattle.elf_read.specs.declared.constants.TheConstants.{PT_TLS, PT_INTERP, PT_DYNAMIC, E_ENTRY_PLACE}
+use Rattle.wf_outside.specs.declared.sizes.TheConstants.{DATA_END, MOST_IMAGE_PAGES}
+use Rattle.wf_outside.specs.Lists.{first_of}
+use Rattle.wf_outside.specs.Pages.{page_of}
 use Rattle.elf_load.specs.declared.fault.LoadFault.{LoadFault}
 use Rattle.elf_load.specs.declared.fault.LoadFault.TheVariants.{Rule, Memory}
-use Rattle.elf_load.specs.Segments.{is_load, loads_of, is_executable, is_writable, end_of, is_text, pages_of, clash}
+use Rattle.elf_load.specs.Segments.{is_load, loads_of, is_executable, is_writable, segment_end, is_text, pages_of, clash}
 
--- What a header breaks, given the headers before it.
-
--- its type asks for more than loading: PT_TLS, PT_INTERP, PT_DYNAMIC
+-- what a header breaks whose type asks for more than loading: PT_TLS, PT_INTERP or PT_DYNAMIC
 abbrev pub linked : List Segment → Segment → Option LoadRule
 linked before s =
-    option_or (then_some (s.p_type == 7) TlsSegment) (option_or (then_some (s.p_type == 3) Interp) (then_some (s.p_type == 2) Dynamic))
+    option_or (then_some (s.p_type == PT_TLS) TlsSegment)
+    (option_or (then_some (s.p_type == PT_INTERP) Interp)
+    (then_some (s.p_type == PT_DYNAMIC) Dynamic))
 
--- it may be written and run
+-- what a header breaks whose segment may be written and run
 abbrev pub write_and_run : List Segment → Segment → Option LoadRule
-write_and_run before s = then_some (is_load s && is_writable s && is_executable s) WriteAndRun
+write_and_run before s =
+    then_some (is_load s && is_writable s && is_executable s) WriteAndRun
 
--- it ends above 0x3E00000000, where the stacks begin
+-- what a header breaks whose segment ends above the first address past data, where the stacks begin
 abbrev pub high_address : List Segment → Segment → Option LoadRule
-high_address before s = then_some (is_load s && nat_lt 0x3E00000000 (end_of s)) HighAddress
+high_address before s =
+    then_some (is_load s && nat_lt DATA_END (segment_end s)) HighAddress
 
--- the pages that it meets, and those that the headers before it meet, are more than 65,536
+-- what a header breaks at which the pages that segments meet pass those that an image may have,
+-- each page counted once for each segment that meets it
 abbrev pub too_large : List Segment → Segment → Option LoadRule
-too_large before s = then_some (is_load s && nat_lt 65536 (sum_by pages_of (loads_of before) + pages_of s)) TooLarge
+too_large before s =
+    then_some (is_load s && nat_lt MOST_IMAGE_PAGES (sum_by pages_of (loads_of before) + pages_of s))
+    TooLarge
 
--- a header before it can't be loaded with it
+-- what a header breaks that can't be loaded with one before it
 abbrev pub shared_page : List Segment → Segment → Option LoadRule
-shared_page before s = then_some (is_load s && list_any (λ t. clash t s) (loads_of before)) SharedPage
+shared_page before s =
+    then_some (is_load s && list_any (λ t. clash t s) (loads_of before)) SharedPage
 
--- what the first header that breaks something breaks, and where that header stands in the file
-abbrev pub first_fault : (List Segment → Segment → Option LoadRule) → List ℕ → List Segment → List Segment → Option LoadFault
-first_fault breaks bytes before [] = None
-first_fault breaks bytes before (s ∷ ss) =
-    option_or (option_map (λ rule. Rule rule (segment_place bytes (length before))) (breaks before s))
-    (first_fault breaks bytes (before ++ s ∷ []) ss)
+-- what the first header that breaks something breaks, and where that header stands in the file,
+-- given the headers before
+abbrev pub fault_among : (List Segment → Segment → Option LoadRule) → List ℕ → List Segment
+    → List Segment → Option LoadFault
+fault_among breaks bytes before [] = None
+fault_among breaks bytes before (s ∷ ss) =
+    option_or
+    (option_map (λ rule. Rule rule (segment_place bytes (length before))) (breaks before s))
+    (fault_among breaks bytes (before ++ s ∷ []) ss)
 
+-- the same, of all headers of the file
 abbrev pub header_fault : ElfValue → (List Segment → Segment → Option LoadRule) → Option LoadFault
-header_fault elf breaks = first_fault breaks elf.bytes [] elf.segments
+header_fault elf breaks = fault_among breaks elf.bytes [] elf.segments
 
--- the fault is that, or want of memory
+-- the fault is that of a rule on headers, or want of memory
 abbrev pub IsFoundBy : ElfValue → (List Segment → Segment → Option LoadRule) → LoadFault → Type 0
 IsFoundBy elf breaks (Rule rule at) = header_fault elf breaks ≡ Some (Rule rule at)
 IsFoundBy elf breaks Memory = Unit {0}
 
--- e_entry, at 24 in the file, is no multiple of 4, or not in a page of text
+-- the fault of a file whose e_entry is no multiple of 4, or is not in a page of text
 abbrev pub entry_fault : ElfValue → Option LoadFault
 entry_fault elf =
-    if (elf.entry % 4 == 0) && is_text (loads_of elf.segments) (elf.entry / 4096) then None else Some (Rule NoEntry 24)
+    if (elf.entry % 4 == 0) && is_text (loads_of elf.segments) (page_of elf.entry)
+    then None
+    else Some (Rule NoEntry E_ENTRY_PLACE)
 
--- the first of these
-abbrev pub first_of : {A : Type 0} → List (Option A) → Option A
-first_of [] = None
-first_of (o ∷ os) = option_or o (first_of os)
-
--- The rules in their order: the first that a file breaks.
+-- the first rule that a file breaks, of all in their order
 unfoldable pub fault_of : ElfValue → Option LoadFault
 fault_of elf = first_of (
     header_fault elf linked

@@ -1,30 +1,27 @@
 //! The bytes and words of a page.
 ghost use Rattle.std.specs.Prelude.{◌≡◌, ◌<◌, ◌+◌, ◌*◌, ℕ, true, if◌then◌else◌, length, slice_index, IfOk};
 ghost use Rattle.std.specs.List.{AllByRecursion};
-ghost use Rattle.elf_load.specs.Segments.{end_of};
-ghost use Rattle.elf_load.specs.Placing.{IsRising, is_placeable};
-ghost use Rattle.elf_load.specs.Loaded.{holds, given, bytes_at, page_words, words_in};
+ghost use Rattle.elf_load.specs.Segments.{segment_end};
+ghost use Rattle.elf_load.specs.Placing.{AreInOrder, is_placeable};
+ghost use Rattle.elf_load.specs.Loaded.{covers, given, bytes_at, page_words, words_in};
 
-use crate::segments::PAGE;
 use byteorder::{ByteOrder, LittleEndian};
 use elf_read::{Elf, Segment, Span};
 use std::alloc::Global;
-use wf_outside::Memory;
-
-const PAGE_BYTES: usize = 4096;
-
-const PAGE_WORDS: usize = 512;
+use wf_outside::{Memory, PAGE_SIZE, PAGE_WORDS};
 
 // The bytes of the file that the segment gives to a page are put there.
 fn copy_part(page: &mut [u8], elf: &Elf, segment: &Segment, number: u32)
-    requires whole { length page.old ≡ 4096 }
+    requires whole { length page.old ≡ PAGE_SIZE }
     requires placeable { is_placeable (length elf.now.bytes) segment.now ≡ true }
-    ensures { (k : ℕ) → k < 4096
-        → slice_index page.new k ≡ (if holds segment.now (4096 * number + k) then given elf.now.bytes segment.now (4096 * number + k) else slice_index page.old k) }
+    ensures { (k : ℕ) → k < PAGE_SIZE
+        → slice_index page.new k ≡ (if covers segment.now (PAGE_SIZE * number + k)
+        then given elf.now.bytes segment.now (PAGE_SIZE * number + k)
+        else slice_index page.old k) }
 {
-    let start = PAGE * number as u64;
+    let start = PAGE_SIZE * number as u64;
     let from = segment.p_vaddr.max(start);
-    let to = (segment.p_vaddr + segment.p_filesz).min(start + PAGE);
+    let to = (segment.p_vaddr + segment.p_filesz).min(start + PAGE_SIZE);
     if from < to {
         let part = elf.bytes(Span {
             at: segment.p_offset,
@@ -37,11 +34,11 @@ fn copy_part(page: &mut [u8], elf: &Elf, segment: &Segment, number: u32)
 
 // The bytes of a page are put where it was empty.
 fn fill(page: &mut [u8], elf: &Elf, loads: &[Segment], number: u32)
-    requires whole { length page.old ≡ 4096 }
-    requires empty { (k : ℕ) → k < 4096 → slice_index page.old k ≡ 0 }
-    requires rising { IsRising loads.now }
+    requires whole { length page.old ≡ PAGE_SIZE }
+    requires empty { (k : ℕ) → k < PAGE_SIZE → slice_index page.old k ≡ 0 }
+    requires rising { AreInOrder loads.now }
     requires each { AllByRecursion (λ s. is_placeable (length elf.now.bytes) s ≡ true) loads.now }
-    ensures { page.new ≡ bytes_at elf.now.bytes loads.now (4096 * number) 4096 }
+    ensures { page.new ≡ bytes_at elf.now.bytes loads.now (PAGE_SIZE * number) PAGE_SIZE }
 {
     for load in loads {
         copy_part(page, elf, load, number);
@@ -58,12 +55,13 @@ fn zeros(alloc: Global, n: usize) -> Result<Vec<u8>, Memory>
 
 // The bytes of a page.
 fn page_bytes(alloc: Global, elf: &Elf, loads: &[Segment], number: u32) -> Result<Vec<u8>, Memory>
-    requires rising { IsRising loads.now }
+    requires rising { AreInOrder loads.now }
     requires each { AllByRecursion (λ s. is_placeable (length elf.now.bytes) s ≡ true) loads.now }
-    ensures bytes { IfOk result (λ bytes. bytes.items ≡ bytes_at elf.now.bytes loads.now (4096 * number) 4096) }
-    ensures len { IfOk result (λ bytes. length bytes.items ≡ 4096) }
+    ensures bytes { IfOk result (λ bytes. bytes.items
+        ≡ bytes_at elf.now.bytes loads.now (PAGE_SIZE * number) PAGE_SIZE) }
+    ensures len { IfOk result (λ bytes. length bytes.items ≡ PAGE_SIZE) }
 {
-    let mut bytes = zeros(alloc, PAGE_BYTES)?;
+    let mut bytes = zeros(alloc, PAGE_SIZE as usize)?;
     fill(&mut bytes, elf, loads, number);
     Ok(bytes)
 }
@@ -76,22 +74,22 @@ fn no_words(alloc: Global, n: usize) -> Result<Vec<u64>, Memory>
 }
 
 // The words in the bytes of a page are put there.
-fn read_words(bytes: &[u8], words: &mut [u64])
-    requires bytes { length bytes.now ≡ 4096 }
-    requires words { length words.old ≡ 512 }
-    ensures { words.new ≡ words_in 512 bytes.now }
+fn fill_words(bytes: &[u8], words: &mut [u64])
+    requires bytes { length bytes.now ≡ PAGE_SIZE }
+    requires words { length words.old ≡ PAGE_WORDS }
+    ensures { words.new ≡ words_in PAGE_WORDS bytes.now }
 {
     LittleEndian::read_u64_into(bytes, words);
 }
 
 // The words in the bytes of a page.
 fn words_of(alloc: Global, bytes: &[u8]) -> Result<Vec<u64>, Memory>
-    requires { length bytes.now ≡ 4096 }
-    ensures words { IfOk result (λ words. words.items ≡ words_in 512 bytes.now) }
-    ensures len { IfOk result (λ words. length words.items ≡ 512) }
+    requires { length bytes.now ≡ PAGE_SIZE }
+    ensures words { IfOk result (λ words. words.items ≡ words_in PAGE_WORDS bytes.now) }
+    ensures len { IfOk result (λ words. length words.items ≡ PAGE_WORDS) }
 {
     let mut words = no_words(alloc, PAGE_WORDS)?;
-    read_words(bytes, &mut words);
+    fill_words(bytes, &mut words);
     Ok(words)
 }
 
@@ -102,10 +100,10 @@ pub fn page_words(
     loads: &[Segment],
     number: u32,
 ) -> Result<Vec<u64>, Memory>
-    requires rising { IsRising loads.now }
+    requires rising { AreInOrder loads.now }
     requires each { AllByRecursion (λ s. is_placeable (length elf.now.bytes) s ≡ true) loads.now }
     ensures words { IfOk result (λ words. words.items ≡ page_words elf.now.bytes loads.now number) }
-    ensures len { IfOk result (λ words. length words.items ≡ 512) }
+    ensures len { IfOk result (λ words. length words.items ≡ PAGE_WORDS) }
 {
     words_of(alloc, &page_bytes(alloc, elf, loads, number)?)
 }

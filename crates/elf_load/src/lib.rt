@@ -11,8 +11,6 @@ mod paging;
 mod placing;
 mod rules;
 mod segments;
-#[cfg(test)]
-mod tests;
 
 pub use fault::LoadFault;
 pub use laws::parts_stand_at_their_addresses;

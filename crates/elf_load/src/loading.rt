@@ -1,5 +1,7 @@
 //! Loading.
-ghost use Rattle.std.specs.Prelude.{◌≡◌, ◌%◌, ◌/◌, ◌==◌, ◌&&◌, true, None, OnOk, IfOk, IfErr, All, ◌<◌, length};
+ghost use Rattle.std.specs.Prelude.{◌≡◌, ◌%◌, ◌==◌, ◌&&◌, true, None, OnOk, IfOk, IfErr, All, ◌<◌, length};
+ghost use Rattle.wf_outside.specs.Pages.{page_of};
+ghost use Rattle.wf_outside.specs.declared.sizes.TheConstants.{DATA_END_PAGE};
 ghost use Rattle.elf_load.specs.Segments.{loads_of, is_text};
 ghost use Rattle.elf_load.specs.Placing.{ArePlaced};
 ghost use Rattle.elf_load.specs.Rules.{fault_of, IsFaultOf};
@@ -11,13 +13,11 @@ use crate::pages::read_pages;
 use crate::paging::page_numbers;
 use crate::placing::placed;
 use crate::rules::{Demand, check_headers, check_size};
-use crate::segments::{PAGE, is_executable, meets};
+use crate::segments::{is_executable, meets};
+use elf_read::constants::E_ENTRY_PLACE;
 use elf_read::{Elf, Segment};
 use std::alloc::Global;
-use wf_outside::{Image, LoadRule, Memory};
-
-// Where e_entry stands in the file.
-const ENTRY_PLACE: u64 = 24;
+use wf_outside::{Image, LoadRule, Memory, PAGE_SIZE};
 
 // The page is one of text.
 fn is_text(loads: &[Segment], number: u64) -> bool
@@ -30,16 +30,16 @@ fn is_text(loads: &[Segment], number: u64) -> bool
 
 // The first instruction is one of text.
 fn is_entry(elf: &Elf, loads: &[Segment]) -> bool
-    ensures { result ≡ ((elf.now.entry % 4 == 0) && is_text loads.now (elf.now.entry / 4096)) }
+    ensures { result ≡ ((elf.now.entry % 4 == 0) && is_text loads.now (page_of elf.now.entry)) }
 {
     let entry = elf.entry();
-    entry % 4 == 0 && is_text(loads, entry / PAGE)
+    entry % 4 == 0 && is_text(loads, entry / PAGE_SIZE)
 }
 
 // The first page behind all of these.
 #[tactic(auto, using(crate::proofs::NumberLemmas::last_got))]
 fn page_behind(numbers: &[u32]) -> u32
-    requires { All (λ number. number < 0x3E00000) numbers.now }
+    requires { All (λ number. number < DATA_END_PAGE) numbers.now }
     ensures { result ≡ page_behind numbers.now }
 {
     match numbers.last() {
@@ -51,7 +51,7 @@ fn page_behind(numbers: &[u32]) -> u32
 // What is loaded of these segments.
 fn image(alloc: Global, elf: &Elf, loads: &[Segment]) -> Result<Image, Memory>
     requires placed { ArePlaced (length elf.now.bytes) (loads_of elf.now.segments) loads.now }
-    requires entry { ((elf.now.entry % 4 == 0) && is_text loads.now (elf.now.entry / 4096)) ≡ true }
+    requires entry { ((elf.now.entry % 4 == 0) && is_text loads.now (page_of elf.now.entry)) ≡ true }
     ensures { IfOk result (λ image. image ≡ image_of elf.now) }
 {
     let numbers = page_numbers(alloc, loads)?;
@@ -65,12 +65,12 @@ fn image(alloc: Global, elf: &Elf, loads: &[Segment]) -> Result<Image, Memory>
     })
 }
 
-/// The image of a file, or the first rule that it breaks. A page that an executable PT_LOAD meets is
-/// text; any other that is met is data, writable where a PT_LOAD on it is. Bytes that no file part
-/// gives are 0. Pages stand by rising number, names in the order of the symbol table.
+/// The image of a file, or the first rule that it breaks. A page that an executable PT_LOAD meets
+/// is text; any other that is met is data, writable where a PT_LOAD on it is. Bytes that no file
+/// part gives are 0. Pages stand by rising number, names in the order of the symbol table.
 ///
-/// The time is that of the file and of the pages that it maps, times a logarithm; the memory is that
-/// of the image and of the headers. A file whose symbols share a long name has it copied for each.
+/// The time is that of the file and of the pages that it maps, times a logarithm; the memory is
+/// that of the image and of the headers. A file whose symbols share a long name has it copied for each.
 #[tactic(auto, unfolding(crate::specs::Rules::fault_of))]
 pub fn load(alloc: Global, elf: &Elf) -> Result<Image, LoadFault>
     // The file is loaded exactly where it breaks no rule, and there is memory.
@@ -86,7 +86,7 @@ pub fn load(alloc: Global, elf: &Elf) -> Result<Image, LoadFault>
     if !is_entry(elf, &loads) {
         return Err(LoadFault::Rule {
             rule: LoadRule::NoEntry,
-            at: ENTRY_PLACE,
+            at: E_ENTRY_PLACE as u64,
         });
     }
     Ok(image(alloc, elf, &loads)?)

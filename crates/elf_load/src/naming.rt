@@ -4,13 +4,10 @@ ghost use Rattle.std.specs.List.{filter};
 ghost use Rattle.elf_read.specs.Elf.{IsNamed};
 ghost use Rattle.elf_load.specs.Loaded.{is_defined, name_of};
 
+use elf_read::constants::{SHN_COMMON, SHN_UNDEF, STB_LOCAL};
 use elf_read::{Elf, Symbol};
 use std::alloc::Global;
 use wf_outside::{Memory, Name, Text};
-
-const SHN_UNDEF: u16 = 0;
-
-const SHN_COMMON: u16 = 0xFFF2;
 
 // The symbol has a name, and is in a section of the file or stands for a number.
 fn is_defined(symbol: &Symbol) -> bool
@@ -28,13 +25,14 @@ fn name_of(alloc: Global, elf: &Elf, symbol: &Symbol) -> Result<Name, Memory>
         name: Text::of(alloc, elf.bytes(symbol.st_name))?,
         addr: symbol.st_value,
         size: symbol.st_size,
-        global: symbol.st_info / 16 != 0,
+        global: symbol.st_info / 16 != STB_LOCAL,
     })
 }
 
 /// The names of the symbols that are defined, in the order of the symbol table.
 pub fn names(alloc: Global, elf: &Elf) -> Result<Vec<Name>, Memory>
-    ensures { IfOk result (λ names. names.items ≡ map (name_of elf.now.bytes) (filter is_defined elf.now.symbols)) }
+    ensures { IfOk result
+        (λ names. names.items ≡ map (name_of elf.now.bytes) (filter is_defined elf.now.symbols)) }
 {
     let mut names = Vec::new(alloc);
     for symbol in elf.symbols() {

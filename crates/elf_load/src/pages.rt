@@ -1,9 +1,10 @@
 //! The pages of an image.
 ghost use Rattle.std.specs.Prelude.{◌≡◌, ◌<◌, ◌∷◌, ◌++◌, ◌^◌, [], true, if◌then◌else◌, map, length, OnOk, IfOk};
 ghost use Rattle.std.specs.List.{AllByRecursion, list_any};
+ghost use Rattle.wf_outside.specs.declared.sizes.TheConstants.{ADDRESS_PAGES, DATA_END_PAGE};
 ghost use Rattle.elf_load.specs.Segments.{is_executable, is_writable, is_met, is_text, is_data};
-ghost use Rattle.elf_load.specs.Placing.{IsRising, is_placeable};
-ghost use Rattle.elf_load.specs.Loaded.{pages_below, text_page, data_page};
+ghost use Rattle.elf_load.specs.Placing.{AreInOrder, is_placeable};
+ghost use Rattle.elf_load.specs.Loaded.{pages_below, loaded_text, loaded_data};
 
 use crate::filling::page_words;
 use crate::paging::{on_page, page_numbers};
@@ -41,13 +42,17 @@ fn add_page(
     number: u32,
     contents: &mut Contents,
 ) -> Result<(), Memory>
-    requires rising { IsRising loads.now }
+    requires rising { AreInOrder loads.now }
     requires each { AllByRecursion (λ s. is_placeable (length elf.now.bytes) s ≡ true) loads.now }
-    requires low { number < 2 ^ 26 }
+    requires low { number < ADDRESS_PAGES }
     ensures text { OnOk result (contents.new.text.items
-        ≡ contents.old.text.items ++ (if is_text loads.now number then text_page elf.now.bytes loads.now number ∷ [] else [])) }
+        ≡ contents.old.text.items ++ (if is_text loads.now number
+        then loaded_text elf.now.bytes loads.now number ∷ []
+        else [])) }
     ensures pages { OnOk result (contents.new.pages.items
-        ≡ contents.old.pages.items ++ (if is_text loads.now number then [] else data_page elf.now.bytes loads.now number ∷ [])) }
+        ≡ contents.old.pages.items ++ (if is_text loads.now number
+        then []
+        else loaded_data elf.now.bytes loads.now number ∷ [])) }
 {
     let here = on_page(loads, number as u64);
     let words = page_words(alloc, elf, here, number)?;
@@ -70,13 +75,13 @@ pub fn read_pages(
     loads: &[Segment],
     numbers: &[u32],
 ) -> Result<Contents, Memory>
-    requires rising { IsRising loads.now }
+    requires rising { AreInOrder loads.now }
     requires each { AllByRecursion (λ s. is_placeable (length elf.now.bytes) s ≡ true) loads.now }
-    requires numbers { numbers.now ≡ pages_below 0x3E00000 (is_met loads.now) }
+    requires numbers { numbers.now ≡ pages_below DATA_END_PAGE (is_met loads.now) }
     ensures text { IfOk result (λ contents. contents.text.items
-        ≡ map (text_page elf.now.bytes loads.now) (pages_below 0x3E00000 (is_text loads.now))) }
+        ≡ map (loaded_text elf.now.bytes loads.now) (pages_below DATA_END_PAGE (is_text loads.now))) }
     ensures pages { IfOk result (λ contents. contents.pages.items
-        ≡ map (data_page elf.now.bytes loads.now) (pages_below 0x3E00000 (is_data loads.now))) }
+        ≡ map (loaded_data elf.now.bytes loads.now) (pages_below DATA_END_PAGE (is_data loads.now))) }
 {
     let mut contents = Contents {
         text: Vec::new(alloc),

@@ -8,17 +8,18 @@ ghost use Rattle.elf_load.specs.Rules.{high_address, shared_page, header_fault, 
 ghost use Rattle.elf_load.specs.Placing.{goes_before, HasSame, IsKeyed, ArePlaced};
 
 use crate::LoadFault;
-use crate::segments::{end_of, first_page, is_executable, is_load, page_after};
+use crate::segments::{first_page, is_executable, is_load, page_after, segment_end};
 use elf_read::{Elf, Segment};
 use std::alloc::Global;
 use std::collections::BTreeMap;
 use wf_outside::LoadRule;
 
-// The first ends before the second begins, and they share no page that one makes text and the other data.
+// The first ends before the second begins, and they share no page that one makes text and the other
+// data.
 fn goes_before(first: &Segment, second: &Segment) -> bool
     ensures { result ≡ goes_before first.now second.now }
 {
-    end_of(first) <= u128::from(second.p_vaddr)
+    segment_end(first) <= u128::from(second.p_vaddr)
         && (page_after(first) <= first_page(second)
             || is_executable(first) == is_executable(second))
 }
@@ -69,7 +70,8 @@ fn place(placed: &mut BTreeMap<u64, Segment>, segment: &Segment) -> Result<(), L
     requires load { is_load segment.now ≡ true }
     requires apart { list_any (λ other. clash other segment.now) (values placed.old) ≡ false }
     ensures map { OnOk result (IsKeyed placed.new.entries) }
-    ensures one_more { OnOk result (HasSame (values placed.new) (values placed.old ++ segment.now ∷ [])) }
+    ensures one_more { OnOk result
+        (HasSame (values placed.new) (values placed.old ++ segment.now ∷ [])) }
     ensures memory { IfErr result (λ fault. fault ≡ LoadFault.Memory) }
 {
     placed.insert(segment.p_vaddr, *segment)?;
@@ -81,7 +83,8 @@ fn place(placed: &mut BTreeMap<u64, Segment>, segment: &Segment) -> Result<(), L
 pub fn placed(alloc: Global, elf: &Elf) -> Result<Vec<Segment>, LoadFault>
     requires { header_fault elf.now high_address ≡ None }
     ensures passed { OnOk result (header_fault elf.now shared_page ≡ None) }
-    ensures placed { IfOk result (λ placed. ArePlaced (length elf.now.bytes) (loads_of elf.now.segments) placed.items) }
+    ensures placed { IfOk result
+        (λ placed. ArePlaced (length elf.now.bytes) (loads_of elf.now.segments) placed.items) }
     ensures fault { IfErr result (λ fault. IsFoundBy elf.now shared_page fault) }
 {
     let mut placed = BTreeMap::new(alloc);

@@ -1,24 +1,14 @@
 //! The rules on single headers, and on the size of what is loaded.
 ghost use Rattle.std.specs.Prelude.{◌≡◌, ◌&&◌, None, Some, [], nat_lt, OnOk, IfErr};
-ghost use Rattle.elf_load.specs.Segments.{is_load, is_writable, is_executable, end_of};
+ghost use Rattle.elf_load.specs.Segments.{is_load, is_writable, is_executable, segment_end};
 ghost use Rattle.elf_load.specs.Rules.{linked, too_large, header_fault};
 ghost use Rattle.elf_load.specs.Demands.{breaks_of};
 
 use crate::LoadFault;
-use crate::segments::{end_of, first_page, is_executable, is_load, is_writable, page_after};
+use crate::segments::{first_page, is_executable, is_load, is_writable, page_after, segment_end};
+use elf_read::constants::{PT_DYNAMIC, PT_INTERP, PT_TLS};
 use elf_read::{Elf, Segment};
-use wf_outside::LoadRule;
-
-const PT_DYNAMIC: u32 = 2;
-
-const PT_INTERP: u32 = 3;
-
-const PT_TLS: u32 = 7;
-
-// The stacks begin here, and images end.
-const TOP: u128 = 0x3E_0000_0000;
-
-const MOST_PAGES: u64 = 65_536;
+use wf_outside::{DATA_END, LoadRule, MOST_IMAGE_PAGES};
 
 /// What is asked of each header by itself.
 #[derive(Clone, Copy)]
@@ -45,16 +35,17 @@ fn unlinked(segment: &Segment) -> Option<LoadRule>
 
 // It may be written and run.
 fn writes_and_runs(segment: &Segment) -> bool
-    ensures { result ≡ (is_load segment.now && is_writable segment.now && is_executable segment.now) }
+    ensures { result
+        ≡ (is_load segment.now && is_writable segment.now && is_executable segment.now) }
 {
     is_load(segment) && is_writable(segment) && is_executable(segment)
 }
 
 // It ends above the addresses of images.
 fn ends_high(segment: &Segment) -> bool
-    ensures { result ≡ (is_load segment.now && nat_lt 0x3E00000000 (end_of segment.now)) }
+    ensures { result ≡ (is_load segment.now && nat_lt DATA_END (segment_end segment.now)) }
 {
-    is_load(segment) && TOP < end_of(segment)
+    is_load(segment) && u128::from(DATA_END) < segment_end(segment)
 }
 
 impl Demand {
@@ -95,7 +86,7 @@ pub fn check_size(elf: &Elf) -> Result<(), LoadFault>
     for (i, segment) in elf.segments().iter().enumerate() {
         if is_load(segment) {
             pages += page_after(segment) - first_page(segment);
-            if MOST_PAGES < pages {
+            if MOST_IMAGE_PAGES < pages {
                 return Err(LoadFault::Rule {
                     rule: LoadRule::TooLarge,
                     at: elf.segment_place(i),

@@ -6,7 +6,10 @@ use Rattle.std.proofs.lemmas.List.{get_or-drop, length-drop}
 use Rattle.std.proofs.lemmas.List.Sums.{position_or_len_is}
 use Rattle.std.proofs.lemmas.Bool.Decides.{nat_tests}
 use Rattle.std.specs.List.{position_or_len}
-use Rattle.elf_read.specs.Names.{zeros_from, IsRising, IsFirstFrom}
+use Rattle.std.specs.List.{AllByRecursion}
+use Rattle.wf_outside.specs.Lists.{IsRising}
+use Rattle.wf_outside.proofs.RisingLemmas.{rising_at}
+use Rattle.elf_read.specs.Names.{zeros_from, IsFirstFrom}
 
 -- z is the place of a zero byte of xs, whose first byte has place n
 pub record IsZeroAt (n : ℕ) (xs : List ℕ) (z : ℕ) : Type 0 where
@@ -35,16 +38,23 @@ pub zero_there : (n : ℕ) (xs : List ℕ) (k : ℕ) → k < length (zeros_from 
 zero_there n [] k h = absurd (omega arith)
 zero_there n (b ∷ bs) k h = there-cons n b bs (b == 0) refl (zero_there (suc n) bs) k h
 
-rise-cons : (n : ℕ) (bs : List ℕ) (t : Bool) → ((i j : ℕ) → i < j → j < length (zeros_from (suc n) bs) → get_or (zeros_from (suc n) bs) i 0 < get_or (zeros_from (suc n) bs) j 0) → (i j : ℕ) → i < j → j < length (cond t (n ∷ zeros_from (suc n) bs) (zeros_from (suc n) bs)) → get_or (cond t (n ∷ zeros_from (suc n) bs) (zeros_from (suc n) bs)) i 0 < get_or (cond t (n ∷ zeros_from (suc n) bs) (zeros_from (suc n) bs)) j 0
-rise-cons n bs true rest i zero h l = absurd (omega arith)
-rise-cons n bs true rest zero (suc j) h l = omega (arith, (zero_there (suc n) bs j (omega arith)).from)
-rise-cons n bs true rest (suc i) (suc j) h l = rest i j (omega arith) (omega arith)
-rise-cons n bs false rest i j h l = rest i j h l
+-- a number below the first place is below all
+above-cons : (m n : ℕ) (bs : List ℕ) (t : Bool) → m < n → AllByRecursion (λ k. m < k) (zeros_from (suc n) bs) → AllByRecursion (λ k. m < k) (cond t (n ∷ zeros_from (suc n) bs) (zeros_from (suc n) bs))
+above-cons m n bs true h rest = (h, rest)
+above-cons m n bs false h rest = rest
+
+above : (m n : ℕ) (bs : List ℕ) → m < n → AllByRecursion (λ k. m < k) (zeros_from n bs)
+above m n [] h = tt
+above m n (b ∷ bs) h = above-cons m n bs (b == 0) h (above m (suc n) bs (omega arith))
+
+rising-cons : (n : ℕ) (bs : List ℕ) (t : Bool) → IsRising (zeros_from (suc n) bs) → IsRising (cond t (n ∷ zeros_from (suc n) bs) (zeros_from (suc n) bs))
+rising-cons n bs true rest = (above n (suc n) bs (omega arith), rest)
+rising-cons n bs false rest = rest
 
 -- they rise
-pub zeros_rise : (n : ℕ) (xs : List ℕ) (i j : ℕ) → i < j → j < length (zeros_from n xs) → get_or (zeros_from n xs) i 0 < get_or (zeros_from n xs) j 0
-zeros_rise n [] i j h l = absurd (omega arith)
-zeros_rise n (b ∷ bs) i j h l = rise-cons n bs (b == 0) (zeros_rise (suc n) bs) i j h l
+pub zeros_rise : (n : ℕ) (xs : List ℕ) → IsRising (zeros_from n xs)
+zeros_rise n [] = tt
+zeros_rise n (b ∷ bs) = rising-cons n bs (b == 0) (zeros_rise (suc n) bs)
 
 -- a number of a place among them
 pub record IsAmong (zs : List ℕ) (z : ℕ) : Type 0 where
@@ -74,7 +84,7 @@ none_between xs at i j m first low high h e (inl l) =
     let here : get_or (zeros_from 0 xs) m 0 ≡ get_or (zeros_from 0 xs) i 0 = ap (λ (k : ℕ). get_or (zeros_from 0 xs) k 0) l in
     omega (arith, high (omega arith))
 none_between xs at i j m first low high h e (inr (inl l)) = omega (arith, first.before m l)
-none_between xs at i j m first low high h e (inr (inr l)) = omega (arith, zeros_rise 0 xs i m l h, high (omega arith))
+none_between xs at i j m first low high h e (inr (inr l)) = omega (arith, rising_at (zeros_from 0 xs) i m (zeros_rise 0 xs) l h, high (omega arith))
 
 -- no byte between them is a zero byte
 no_zero_between : (xs : List ℕ) (at i j : ℕ) → IsFirstFrom (zeros_from 0 xs) at i → at ≤ j → j < length xs → (i < length (zeros_from 0 xs) → j < get_or (zeros_from 0 xs) i 0) → get_or xs j 0 ≡ 0 → ⊥
@@ -112,21 +122,13 @@ name_goes_on xs at i first h =
 pub first_found : (places : List ℕ) (at i : ℕ) → IsRising places → i < length places → get_or places i 0 ≡ at → IsFirstFrom places at i
 first_found places at i rising h e = record {
   bound = omega arith;
-  before = λ k l. omega (arith, rising k i l h);
+  before = λ k l. omega (arith, rising_at places k i rising l h);
   behind = λ k l m. elim (cases_order k i) [
     | inl same ↦ (let here : get_or places k 0 ≡ get_or places i 0 = ap (λ (n : ℕ). get_or places n 0) same in omega arith)
     | inr (inl less) ↦ absurd (omega arith)
-    | inr (inr more) ↦ omega (arith, rising i k more m)
+    | inr (inr more) ↦ omega (arith, rising_at places i k rising more m)
   ];
 }
-
--- a binary search may take the places
-pub not_falling : (places : List ℕ) → IsRising places → (i j : ℕ) → i ≤ j → j < length places → get_or places i 0 ≤ get_or places j 0
-not_falling places rising i j l h = elim (cases_order i j) [
-  | inl same ↦ (let here : get_or places i 0 ≡ get_or places j 0 = ap (λ (n : ℕ). get_or places n 0) same in omega arith)
-  | inr (inl less) ↦ omega (arith, rising i j less h)
-  | inr (inr more) ↦ absurd (omega arith)
-]
 
 -- the length of a name, where its end was found
 pub named : (zs xs : List ℕ) (at i z : ℕ) → zs ≡ zeros_from 0 xs → IsFirstFrom zs at i → i < length zs → z ≡ get_or zs i z → z - at ≡ position_or_len (λ b. b == 0) (drop at xs)

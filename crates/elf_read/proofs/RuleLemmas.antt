@@ -13,6 +13,7 @@ use Rattle.elf_read.specs.declared.fault.ElfFault.TheVariants.{Rule, Memory}
 use Rattle.wf_outside.specs.declared.rules.ElfRule.{ElfRule}
 use Rattle.wf_outside.specs.declared.rules.ElfRule.TheVariants.{Range, Strings, Table}
 use Rattle.elf_read.specs.declared.symbols.SymbolTable.{SymbolTable}
+use Rattle.elf_read.specs.declared.constants.TheConstants.{EHSIZE, PHENTSIZE, SHENTSIZE, SYMENTSIZE, PT_LOAD, SHT_SYMTAB, SHT_STRTAB}
 use Rattle.elf_read.specs.Elf.{segment_place, FitsFile, IsInFile, IsNamed}
 use Rattle.elf_read.specs.Records.{segment_at, is_symtab, symbol_table, header_of, segments_of, sections_of, symbols_of}
 use Rattle.elf_read.specs.declared.records.Segment.{Segment}
@@ -21,8 +22,9 @@ use Rattle.elf_read.specs.declared.records.Symbol.{Symbol}
 use Rattle.elf_read.specs.declared.elf.Kind.{Kind}
 use Rattle.elf_read.specs.declared.header.Header.{Header}
 use Rattle.elf_read.specs.declared.fault.ElfFault.{ElfFault}
+use Rattle.wf_outside.specs.Lists.{first_of}
 use Rattle.elf_read.specs.Reading.{Answers, IsLaidOut, AreSymbolsIn}
-use Rattle.elf_read.specs.Rules.{first_of, unless_each, layout_rules, header_rules, first_fault, segment_rules, section_rules, symbol_rules, fits_file, is_strings, is_only_symtab, lies_in_file, ends_in}
+use Rattle.elf_read.specs.Rules.{unless_each, layout_rules, header_rules, first_fault, segment_rules, section_rules, symbol_rules, fits_file, is_strings, is_only_symtab, lies_in_file, ends_in, has_home}
 
 -- where none of the first rules is broken, the others count
 pub first_of-none : (xs ys : List (Option ElfFault)) → first_of xs ≡ None → first_of (xs ++ ys) ≡ first_of ys
@@ -37,7 +39,7 @@ first_of-some (None ∷ xs) ys fault h = first_of-some xs ys fault h
 first_of-some (Some x ∷ xs) ys fault h = h
 
 -- a file that breaks no rule about the tables of headers has room for them
-pub laid_out : (size : ℕ) (h : Header) → None ≡ first_of (layout_rules size h) → 64 ≤ size → IsLaidOut size h
+pub laid_out : (size : ℕ) (h : Header) → None ≡ first_of (layout_rules size h) → EHSIZE ≤ size → IsLaidOut size h
 laid_out size h e room = record {
   header = room;
   segments = λ some. grind (arith, nat_tests);
@@ -67,7 +69,7 @@ none_first None xs e = (refl, e)
 none_first (Some x) xs e = cc
 
 -- a segment that passes the test
-fits : (size : ℕ) (s : Segment) → fits_file size s ≡ true → s.p_type ≡ 1 → IsInFile size s
+fits : (size : ℕ) (s : Segment) → fits_file size s ≡ true → s.p_type ≡ PT_LOAD → IsInFile size s
 fits size s e load = record {
   in_file = grind (arith, nat_tests);
   in_memory = grind (arith, nat_tests);
@@ -78,13 +80,13 @@ fits size s e load = record {
 pub segments_fit : (size : ℕ) (h : Header) (segments : List Segment) → None ≡ first_of (segment_rules size h segments) → All (FitsFile size) segments
 unfolding segment_rules
 segments_fit size h segments e k d l load =
-    fits size (get_or segments k d) (each_holds (fits_file size) Range h.e_phoff 56 segments (none_first _ _ e).0 k d l) load
+    fits size (get_or segments k d) (each_holds (fits_file size) Range h.e_phoff PHENTSIZE segments (none_first _ [] e).0 k d l) load
 
 -- the symbols of a file that breaks no rule about them
 pub symbols_named : (size : ℕ) (h : Header) (t : SymbolTable) (symbols : List Symbol) → AreSymbolsIn size t → None ≡ first_of (symbol_rules h t symbols) → All (IsNamed size) symbols
 unfolding symbol_rules
 symbols_named size h t symbols room e k d l =
-    let ends : ends_in t.names (get_or symbols k d) ≡ true = each_holds (ends_in t.names) Strings t.at 24 symbols (none_first _ _ e).0 k d l in
+    let ends : ends_in t.names (get_or symbols k d) ≡ true = each_holds (ends_in t.names) Strings t.at SYMENTSIZE symbols (none_first _ (unless_each (has_home h.e_shnum) Table t.at SYMENTSIZE symbols ∷ []) e).0 k d l in
     grind (arith, nat_tests, room.names)
 
 -- a section with bytes lies in the file
@@ -109,7 +111,7 @@ outer_two a b c xs e none =
     (front.0, (none_first c [] (none_first b (c ∷ []) front.1).1).0)
 
 -- no section lies outside the file, and none is a wrong symbol table
-sections_fit : (size : ℕ) (h : Header) (sections : List Section) → None ≡ first_of (section_rules size h sections) → (None ≡ unless_each (lies_in_file size) Range h.e_shoff 64 sections) × (None ≡ unless_each (is_only_symtab sections) Table h.e_shoff 64 (enumerate_from 0 sections))
+sections_fit : (size : ℕ) (h : Header) (sections : List Section) → None ≡ first_of (section_rules size h sections) → (None ≡ unless_each (lies_in_file size) Range h.e_shoff SHENTSIZE sections) × (None ≡ unless_each (is_only_symtab sections) Table h.e_shoff SHENTSIZE (enumerate_from 0 sections))
 unfolding section_rules
 sections_fit size h sections e = outer_two _ _ _ (section_rules size h sections) refl e
 
@@ -122,7 +124,7 @@ last_holds true true true true e h is = h
 
 -- the first symbol table has its names in a string table
 only_strings : (sections : List Section) (i : ℕ) (s : Section) → is_only_symtab sections (i, s) ≡ true → is_symtab s ≡ true → is_strings sections s.sh_link ≡ true
-only_strings sections i s only is = last_holds (is_symtab s) _ (s.sh_entsize == 24) (s.sh_size % 24 == 0) _ only is
+only_strings sections i s only is = last_holds (is_symtab s) _ (s.sh_entsize == SYMENTSIZE) (s.sh_size % SYMENTSIZE == 0) _ only is
 
 -- the first symbol table has its symbols in the file, and a string table that is there
 first_symtab : (size : ℕ) (h : Header) (sections : List Section) (s : Section) → None ≡ first_of (section_rules size h sections) → find is_symtab sections ≡ Some s → (s.sh_offset + s.sh_size ≤ size) × (is_strings sections s.sh_link ≡ true)
@@ -133,10 +135,10 @@ first_symtab size h sections s e found =
     let this : get_or sections at s ≡ s = get_or_from_slice_get sections at s s there in
     let is : is_symtab s ≡ true = ap is_symtab (sym this) ∙ passes_at_first is_symtab sections s within in
     let parts = sections_fit size h sections e in
-    let lies_there : lies_in_file size s ≡ true = ap (lies_in_file size) (sym this) ∙ each_holds (lies_in_file size) Range h.e_shoff 64 sections parts.0 at s within in
+    let lies_there : lies_in_file size s ≡ true = ap (lies_in_file size) (sym this) ∙ each_holds (lies_in_file size) Range h.e_shoff SHENTSIZE sections parts.0 at s within in
     let pair : get_or (enumerate_from 0 sections) at (0, s) ≡ (0 + at, s) = get_or-enumerate_from 0 sections at (0, s) within ∙ ap (λ (x : Section). (0 + at, x)) this in
-    let only : is_only_symtab sections (0 + at, s) ≡ true = ap (is_only_symtab sections) (sym pair) ∙ each_holds (is_only_symtab sections) Table h.e_shoff 64 (enumerate_from 0 sections) parts.1 at (0, s) (omega (arith, length-enumerate_from 0 sections)) in
-    let type : s.sh_type ≡ 2 = grind (arith, nat_tests) in
+    let only : is_only_symtab sections (0 + at, s) ≡ true = ap (is_only_symtab sections) (sym pair) ∙ each_holds (is_only_symtab sections) Table h.e_shoff SHENTSIZE (enumerate_from 0 sections) parts.1 at (0, s) (omega (arith, length-enumerate_from 0 sections)) in
+    let type : s.sh_type ≡ SHT_SYMTAB = grind (arith, nat_tests) in
     (lies size s lies_there (omega arith) (omega arith), only_strings sections (0 + at) s only is)
 
 -- a string table lies in the file
@@ -144,9 +146,9 @@ strings_in : (size : ℕ) (h : Header) (sections : List Section) (i : ℕ) (n : 
 strings_in size h sections i n e strings found =
     let within : i < length sections = slice_get_within sections i n found in
     let this : get_or sections i n ≡ n = get_or_from_slice_get sections i n n found in
-    let lies_there : lies_in_file size n ≡ true = ap (lies_in_file size) (sym this) ∙ each_holds (lies_in_file size) Range h.e_shoff 64 sections (sections_fit size h sections e).0 i n within in
-    let type : (n.sh_type == 3) ≡ true = sym (ap (λ (o : Option Section). option_map_or (λ x. x.sh_type == 3) o false) found) ∙ strings in
-    let three : n.sh_type ≡ 3 = grind (arith, nat_tests) in
+    let lies_there : lies_in_file size n ≡ true = ap (lies_in_file size) (sym this) ∙ each_holds (lies_in_file size) Range h.e_shoff SHENTSIZE sections (sections_fit size h sections e).0 i n within in
+    let type : (n.sh_type == SHT_STRTAB) ≡ true = sym (ap (λ (o : Option Section). option_map_or (λ x. x.sh_type == SHT_STRTAB) o false) found) ∙ strings in
+    let three : n.sh_type ≡ SHT_STRTAB = grind (arith, nat_tests) in
     lies size n lies_there (omega arith) (omega arith)
 
 -- the symbols of a file that breaks no rule about sections lie in it, and so do their names
@@ -219,9 +221,9 @@ part_answers r Memory rules first P is answers whole = inl is
 part_answers r (Rule rule at) rules first P is answers whole = inr (ap result_err is ∙ sym (whole (Rule rule at) answers))
 
 -- each program header lies in the file
-pub headers_in : (bytes : List ℕ) (h : Header) (segments : List Segment) → h ≡ header_of bytes → IsLaidOut (length bytes) h → segments ≡ segments_of bytes h → (i : ℕ) → i < length segments → segment_place bytes i + 56 ≤ length bytes
+pub headers_in : (bytes : List ℕ) (h : Header) (segments : List Segment) → h ≡ header_of bytes → IsLaidOut (length bytes) h → segments ≡ segments_of bytes h → (i : ℕ) → i < length segments → segment_place bytes i + PHENTSIZE ≤ length bytes
 headers_in bytes h segments is room are i l =
     let at : h.e_phoff ≡ (header_of bytes).e_phoff = ap (λ (x : Header). x.e_phoff) is in
-    let count : length segments ≡ h.e_phnum = ap length are ∙ length-map-range_with_len (λ i. segment_at bytes (h.e_phoff + 56 * i)) 0 h.e_phnum in
-    let room : h.e_phoff + 56 * h.e_phnum ≤ length bytes = room.segments (omega arith) in
+    let count : length segments ≡ h.e_phnum = ap length are ∙ length-map-range_with_len (λ i. segment_at bytes (h.e_phoff + PHENTSIZE * i)) 0 h.e_phnum in
+    let room : h.e_phoff + PHENTSIZE * h.e_phnum ≤ length bytes = room.segments (omega arith) in
     omega arith

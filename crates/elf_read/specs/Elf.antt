@@ -4,6 +4,7 @@ use Rattle.elf_read.specs.declared.header.Header.{Header}
 use Rattle.elf_read.specs.declared.records.Segment.{Segment}
 use Rattle.elf_read.specs.declared.records.Section.{Section}
 use Rattle.elf_read.specs.declared.records.Symbol.{Symbol}
+use Rattle.elf_read.specs.declared.constants.TheConstants.{PHENTSIZE, PT_LOAD}
 use Rattle.elf_read.specs.Records.{header_of, segments_of, sections_of, symbol_table, symbols_of}
 
 -- a file that was read, as clauses see it: its bytes, the address at which the program begins, and
@@ -25,7 +26,7 @@ pub record IsElf (bytes : List ℕ) (elf : ElfValue) : Type 0 where
 
 -- where the header of segment i stands in the file
 abbrev pub segment_place : List ℕ → ℕ → ℕ
-segment_place bytes i = (header_of bytes).e_phoff + 56 * i
+segment_place bytes i = (header_of bytes).e_phoff + PHENTSIZE * i
 
 -- the segment's part of a file of so many bytes lies there, it has memory for that part, and its
 -- memory ends at 2 ^ 64 or below
@@ -34,18 +35,19 @@ pub record IsInFile (size : ℕ) (s : Segment) : Type 0 where
   pub in_memory : s.p_filesz ≤ s.p_memsz
   pub in_space : s.p_vaddr + s.p_memsz ≤ 2 ^ 64
 
--- so does each segment that is to be loaded, PT_LOAD
+-- a segment that is to be loaded, PT_LOAD, lies in a file of so many bytes
 abbrev pub FitsFile : ℕ → Segment → Type 0
-FitsFile size s = s.p_type ≡ 1 → IsInFile size s
+FitsFile size s = s.p_type ≡ PT_LOAD → IsInFile size s
 
 -- the name lies in a file of so many bytes, and a byte follows it there
 abbrev pub IsNamed : ℕ → Symbol → Type 0
 IsNamed size s = s.st_name.at + s.st_name.len < size
 
 -- what a file keeps that was read
-pub record IsKept (bytes : List ℕ) (h : Header) (segments : List Segment) (symbols : List Symbol) : Type 0 where
+pub record IsKept (bytes : List ℕ) (h : Header) (segments : List Segment) (symbols : List Symbol) :
+    Type 0 where
   pub few : length bytes < 2 ^ 32
   pub header : h ≡ header_of bytes
-  pub places : EachIndex segments (λ i. segment_place bytes i + 56 ≤ length bytes)
+  pub places : EachIndex segments (λ i. segment_place bytes i + PHENTSIZE ≤ length bytes)
   pub fit : All (FitsFile (length bytes)) segments
   pub named : All (IsNamed (length bytes)) symbols

@@ -6,10 +6,6 @@ abbrev pub zeros_from : ℕ → List ℕ → List ℕ
 zeros_from n [] = []
 zeros_from n (b ∷ bs) = if b == 0 then n ∷ zeros_from (suc n) bs else zeros_from (suc n) bs
 
--- each place is below those behind it
-abbrev pub IsRising : List ℕ → Type 0
-IsRising places = (i j : ℕ) → i < j → j < length places → slice_index places i < slice_index places j
-
 -- i is the number of the first place that is not below a place
 pub record IsFirstFrom (places : List ℕ) (at i : ℕ) : Type 0 where
   pub bound : i ≤ length places

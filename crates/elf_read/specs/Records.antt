@@ -10,23 +10,23 @@ use Rattle.elf_read.specs.declared.records.Section.{Section}
 use Rattle.elf_read.specs.declared.records.Span.{Span}
 use Rattle.elf_read.specs.declared.records.Symbol.{Symbol}
 use Rattle.elf_read.specs.declared.symbols.SymbolTable.{SymbolTable}
-use Rattle.elf_read.specs.declared.constants.TheConstants.{SHT_SYMTAB}
+use Rattle.elf_read.specs.declared.constants.TheConstants.{E_TYPE_PLACE, E_MACHINE_PLACE, E_ENTRY_PLACE, E_PHOFF_PLACE, E_SHOFF_PLACE, E_FLAGS_PLACE, E_PHENTSIZE_PLACE, E_PHNUM_PLACE, E_SHENTSIZE_PLACE, E_SHNUM_PLACE, E_SHSTRNDX_PLACE, PHENTSIZE, SHENTSIZE, SYMENTSIZE, SHT_SYMTAB}
 use Rattle.elf_read.specs.Fields.{field}
 
 -- the header of the file
 unfoldable pub header_of : List ℕ → Header
 header_of bytes = record {
-  e_type = field 2 16 bytes;
-  e_machine = field 2 18 bytes;
-  e_entry = field 8 24 bytes;
-  e_phoff = field 8 32 bytes;
-  e_shoff = field 8 40 bytes;
-  e_flags = field 4 48 bytes;
-  e_phentsize = field 2 54 bytes;
-  e_phnum = field 2 56 bytes;
-  e_shentsize = field 2 58 bytes;
-  e_shnum = field 2 60 bytes;
-  e_shstrndx = field 2 62 bytes;
+  e_type = field 2 E_TYPE_PLACE bytes;
+  e_machine = field 2 E_MACHINE_PLACE bytes;
+  e_entry = field 8 E_ENTRY_PLACE bytes;
+  e_phoff = field 8 E_PHOFF_PLACE bytes;
+  e_shoff = field 8 E_SHOFF_PLACE bytes;
+  e_flags = field 4 E_FLAGS_PLACE bytes;
+  e_phentsize = field 2 E_PHENTSIZE_PLACE bytes;
+  e_phnum = field 2 E_PHNUM_PLACE bytes;
+  e_shentsize = field 2 E_SHENTSIZE_PLACE bytes;
+  e_shnum = field 2 E_SHNUM_PLACE bytes;
+  e_shstrndx = field 2 E_SHSTRNDX_PLACE bytes;
 }
 
 -- a program header
@@ -85,28 +85,28 @@ table read at size n = map (λ i. read (at + size * i)) (range_with_len 0 n)
 
 -- the program headers
 abbrev pub segments_of : List ℕ → Header → List Segment
-segments_of bytes h = table (segment_at bytes) h.e_phoff 56 h.e_phnum
+segments_of bytes h = table (segment_at bytes) h.e_phoff PHENTSIZE h.e_phnum
 
 -- the section headers
 abbrev pub sections_of : List ℕ → Header → List Section
-sections_of bytes h = table (section_at bytes) h.e_shoff 64 h.e_shnum
+sections_of bytes h = table (section_at bytes) h.e_shoff SHENTSIZE h.e_shnum
 
 -- the section is a symbol table
 abbrev pub is_symtab : Section → Bool
 is_symtab s = s.sh_type == SHT_SYMTAB
 
--- the symbol table is the first section of its type; its names stand in the section that it is linked
--- to. A file without one has an empty one.
+-- the symbol table is the first section of its type; its names stand in the section that it is
+-- linked to. A file without one has an empty one.
 unfoldable pub symbol_table : List Section → SymbolTable
 symbol_table sections =
     unwrap_or
     (option_and_then (λ symtab. option_map (λ strtab. record {
       at = symtab.sh_offset;
-      count = symtab.sh_size / 24;
+      count = symtab.sh_size / SYMENTSIZE;
       names = record { at = strtab.sh_offset; len = strtab.sh_size };
     }) (slice_get sections symtab.sh_link)) (find is_symtab sections))
     (record { at = 0; count = 0; names = record { at = 0; len = 0 } })
 
 -- the symbols
 abbrev pub symbols_of : List ℕ → SymbolTable → List Symbol
-symbols_of bytes t = table (symbol_at bytes t.names) t.at 24 t.count
+symbols_of bytes t = table (symbol_at bytes t.names) t.at SYMENTSIZE t.count

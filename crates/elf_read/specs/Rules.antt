@@ -1,6 +1,6 @@
--- The rules of a file, in the order in which they are looked at, each with the place that is told where
--- it is broken (System V ABI, "ELF Header", "Program Header", "Section Header", "Symbol Table" and
--- "String Table"; RISC-V ELF psABI, "File Header").
+-- The rules of a file, in the order in which they are looked at, each with the place that is told
+-- where it is broken (System V ABI, "ELF Header", "Program Header", "Section Header", "Symbol Table"
+-- and "String Table"; RISC-V ELF psABI, "File Header").
 use Rattle.std.specs.Prelude.{ℕ, ◌+◌, ◌*◌, ◌%◌, ◌^◌, ◌==◌, ◌&&◌, ◌||◌, not, Bool, false, if◌then◌else◌, List, [], ◌∷◌, ◌++◌, Option, Some, None, length, nat_lt, nat_le, nat_eq, bit_and, slice_index, slice_get, position}
 use Rattle.std.specs.List.{starts_with, enumerate_from}
 use Rattle.std.specs.Option.{option_map, option_map_or}
@@ -16,7 +16,8 @@ use Rattle.elf_read.specs.declared.records.Segment.{Segment}
 use Rattle.elf_read.specs.declared.records.Section.{Section}
 use Rattle.elf_read.specs.declared.records.Span.{Span}
 use Rattle.elf_read.specs.declared.records.Symbol.{Symbol}
-use Rattle.elf_read.specs.declared.constants.TheConstants.{ELFCLASS64, ELFDATA2LSB, ET_EXEC, EM_RISCV, EF_RISCV_RVC, EF_RISCV_RVE, PT_LOAD, SHT_NULL, SHT_STRTAB, SHT_NOBITS, SHN_LORESERVE, SHN_XINDEX}
+use Rattle.elf_read.specs.declared.constants.TheConstants.{EHSIZE, PHENTSIZE, SHENTSIZE, SYMENTSIZE, EI_CLASS, EI_DATA, E_TYPE_PLACE, E_MACHINE_PLACE, E_FLAGS_PLACE, E_PHENTSIZE_PLACE, E_PHOFF_PLACE, E_SHENTSIZE_PLACE, E_SHOFF_PLACE, E_SHSTRNDX_PLACE, ELFCLASS64, ELFDATA2LSB, ET_EXEC, EM_RISCV, EF_RISCV_RVC, EF_RISCV_RVE, PT_LOAD, SHT_NULL, SHT_STRTAB, SHT_NOBITS, SHN_LORESERVE, SHN_XINDEX}
+use Rattle.wf_outside.specs.Lists.{first_of}
 use Rattle.elf_read.specs.Records.{is_symtab, header_of, segments_of, sections_of, symbol_table, symbols_of}
 
 -- the rule is broken, at this place, unless the test holds
@@ -29,12 +30,6 @@ abbrev pub unless_each : {X : Type 0} → (X → Bool) → ElfRule → ℕ → �
 unless_each holds rule at size xs =
     option_map (λ i. Rule rule (at + size * i)) (position (λ x. not (holds x)) xs)
 
--- the first that is there
-abbrev pub first_of : List (Option ElfFault) → Option ElfFault
-first_of [] = None
-first_of (Some fault ∷ faults) = Some fault
-first_of (None ∷ faults) = first_of faults
-
 -- e_type of the kind that is asked for
 abbrev pub type_of : Kind → ℕ
 type_of Exec = ET_EXEC
@@ -43,11 +38,14 @@ type_of Exec = ET_EXEC
 abbrev pub fits_file : ℕ → Segment → Bool
 fits_file size s =
     not (s.p_type == PT_LOAD)
-    || (nat_le (s.p_offset + s.p_filesz) size && nat_le s.p_filesz s.p_memsz && nat_le (s.p_vaddr + s.p_memsz) (2 ^ 64))
+    || (nat_le (s.p_offset + s.p_filesz) size
+    && nat_le s.p_filesz s.p_memsz
+    && nat_le (s.p_vaddr + s.p_memsz) (2 ^ 64))
 
 -- a section with bytes in the file has them there
 abbrev pub lies_in_file : ℕ → Section → Bool
-lies_in_file size s = s.sh_type == SHT_NULL || s.sh_type == SHT_NOBITS || nat_le (s.sh_offset + s.sh_size) size
+lies_in_file size s =
+    s.sh_type == SHT_NULL || s.sh_type == SHT_NOBITS || nat_le (s.sh_offset + s.sh_size) size
 
 -- a section's number is that of a string table
 abbrev pub is_strings : List Section → ℕ → Bool
@@ -55,13 +53,14 @@ is_strings sections i = option_map_or (λ s. s.sh_type == SHT_STRTAB) (slice_get
 
 -- a section has whole symbols, and their names are in a string table
 abbrev pub has_symbols : List Section → Section → Bool
-has_symbols sections s = s.sh_entsize == 24 && s.sh_size % 24 == 0 && is_strings sections s.sh_link
+has_symbols sections s = s.sh_entsize == SYMENTSIZE && s.sh_size % SYMENTSIZE == 0 && is_strings sections s.sh_link
 
 -- section i is no symbol table, or it is the first one and has symbols
 abbrev pub is_only_symtab : List Section → ℕ × Section → Bool
 is_only_symtab sections (i, s) =
     not (is_symtab s)
-    || (option_map_or (λ first. i == first) (position is_symtab sections) false && has_symbols sections s)
+    || (option_map_or (λ first. i == first) (position is_symtab sections) false
+    && has_symbols sections s)
 
 -- the zero byte at the end of a name lies in the string table
 abbrev pub ends_in : Span → Symbol → Bool
@@ -69,56 +68,61 @@ ends_in names s = nat_lt (s.st_name.at + s.st_name.len) (names.at + names.len)
 
 -- a symbol's section is one of so many, or has a number with a meaning of its own
 abbrev pub has_home : ℕ → Symbol → Bool
-has_home sections s = nat_lt s.st_shndx sections || (nat_le SHN_LORESERVE s.st_shndx && not (s.st_shndx == SHN_XINDEX))
+has_home sections s =
+    nat_lt s.st_shndx sections
+    || (nat_le SHN_LORESERVE s.st_shndx && not (s.st_shndx == SHN_XINDEX))
 
--- The rules, in order. Those of the first bytes:
+-- the rules of the first bytes
 abbrev pub ident_rules : List ℕ → List (Option ElfFault)
 ident_rules bytes =
     unless (starts_with nat_eq bytes (0x7F ∷ 0x45 ∷ 0x4C ∷ 0x46 ∷ [])) Magic 0
-    ∷ unless (slice_index bytes 4 == ELFCLASS64) Class 4
-    ∷ unless (slice_index bytes 5 == ELFDATA2LSB) Order 5
+    ∷ unless (slice_index bytes EI_CLASS == ELFCLASS64) Class EI_CLASS
+    ∷ unless (slice_index bytes EI_DATA == ELFDATA2LSB) Order EI_DATA
     ∷ []
 
+-- the rules about what the file is for
 abbrev pub target_rules : Kind → Header → List (Option ElfFault)
 target_rules kind h =
-    unless (h.e_type == type_of kind) Kind_ 16
-    ∷ unless (h.e_machine == EM_RISCV) Machine 18
-    ∷ unless (bit_and h.e_flags EF_RISCV_RVC == 0 && bit_and h.e_flags EF_RISCV_RVE == 0) Flags 48
+    unless (h.e_type == type_of kind) Kind_ E_TYPE_PLACE
+    ∷ unless (h.e_machine == EM_RISCV) Machine E_MACHINE_PLACE
+    ∷ unless (bit_and h.e_flags EF_RISCV_RVC == 0 && bit_and h.e_flags EF_RISCV_RVE == 0) Flags E_FLAGS_PLACE
     ∷ []
 
+-- the rules about the tables of headers, in a file of so many bytes
 abbrev pub layout_rules : ℕ → Header → List (Option ElfFault)
 layout_rules size h =
-    unless (h.e_phnum == 0 || h.e_phentsize == 56) Table 54
-    ∷ unless (h.e_phnum == 0 || nat_le (h.e_phoff + 56 * h.e_phnum) size) Table 32
-    ∷ unless (if h.e_shnum == 0 then h.e_shoff == 0 else h.e_shentsize == 64) Table 58
-    ∷ unless (nat_le (h.e_shoff + 64 * h.e_shnum) size) Table 40
+    unless (h.e_phnum == 0 || h.e_phentsize == PHENTSIZE) Table E_PHENTSIZE_PLACE
+    ∷ unless (h.e_phnum == 0 || nat_le (h.e_phoff + PHENTSIZE * h.e_phnum) size) Table E_PHOFF_PLACE
+    ∷ unless (if h.e_shnum == 0 then h.e_shoff == 0 else h.e_shentsize == SHENTSIZE) Table
+    E_SHENTSIZE_PLACE
+    ∷ unless (nat_le (h.e_shoff + SHENTSIZE * h.e_shnum) size) Table E_SHOFF_PLACE
     ∷ []
 
--- all of these, behind that there is room for a header:
+-- all rules of the header, behind the one that there is room for it
 unfoldable pub header_rules : Kind → List ℕ → List (Option ElfFault)
 header_rules kind bytes =
-    (unless (nat_le 64 (length bytes)) Short (length bytes) ∷ [])
+    (unless (nat_le EHSIZE (length bytes)) Short (length bytes) ∷ [])
     ++ ident_rules bytes
     ++ target_rules kind (header_of bytes)
     ++ layout_rules (length bytes) (header_of bytes)
 
--- of the segments:
+-- the rules of the segments
 unfoldable pub segment_rules : ℕ → Header → List Segment → List (Option ElfFault)
-segment_rules size h segments = unless_each (fits_file size) Range h.e_phoff 56 segments ∷ []
+segment_rules size h segments = unless_each (fits_file size) Range h.e_phoff PHENTSIZE segments ∷ []
 
--- of the sections:
+-- the rules of the sections
 unfoldable pub section_rules : ℕ → Header → List Section → List (Option ElfFault)
 section_rules size h sections =
-    unless_each (lies_in_file size) Range h.e_shoff 64 sections
-    ∷ unless (h.e_shnum == 0 || h.e_shstrndx == 0 || is_strings sections h.e_shstrndx) Strings 62
-    ∷ unless_each (is_only_symtab sections) Table h.e_shoff 64 (enumerate_from 0 sections)
+    unless_each (lies_in_file size) Range h.e_shoff SHENTSIZE sections
+    ∷ unless (h.e_shnum == 0 || h.e_shstrndx == 0 || is_strings sections h.e_shstrndx) Strings E_SHSTRNDX_PLACE
+    ∷ unless_each (is_only_symtab sections) Table h.e_shoff SHENTSIZE (enumerate_from 0 sections)
     ∷ []
 
--- of the symbols:
+-- the rules of the symbols
 unfoldable pub symbol_rules : Header → SymbolTable → List Symbol → List (Option ElfFault)
 symbol_rules h t symbols =
-    unless_each (ends_in t.names) Strings t.at 24 symbols
-    ∷ unless_each (has_home h.e_shnum) Table t.at 24 symbols
+    unless_each (ends_in t.names) Strings t.at SYMENTSIZE symbols
+    ∷ unless_each (has_home h.e_shnum) Table t.at SYMENTSIZE symbols
     ∷ []
 
 -- the first rule that is broken, and where

@@ -4,6 +4,7 @@ ghost use Rattle.std.specs.Result.{result_err};
 ghost use Rattle.elf_read.specs.Elf.{IsElf, FitsFile, IsNamed, segment_place};
 ghost use Rattle.elf_read.specs.Rules.{first_fault};
 
+use crate::constants::PHENTSIZE;
 use crate::reading::{Tables, read_tables};
 use crate::{ElfFault, RelaGroup, Section, Segment, Span, Symbol};
 use std::alloc::Global;
@@ -30,15 +31,22 @@ impl Model for Elf {
 
     ghost Value = { ElfValue };
 
-    ghost view = { λ e. record { bytes = e.bytes.items; entry = e.tables.header.e_entry; segments = e.tables.segments.items; sections = e.tables.sections.items; symbols = e.tables.symbols.items } };
+    ghost view = { λ e. record {
+      bytes = e.bytes.items;
+      entry = e.tables.header.e_entry;
+      segments = e.tables.segments.items;
+      sections = e.tables.sections.items;
+      symbols = e.tables.symbols.items;
+    } };
 
-    ghost invariant = { λ e. IsKept e.bytes.items e.tables.header e.tables.segments.items e.tables.symbols.items };
+    ghost invariant = { λ e.
+        IsKept e.bytes.items e.tables.header e.tables.segments.items e.tables.symbols.items };
 }
 
 impl Elf {
-    /// Reads a file of fewer than 2^32 bytes. A fault is the first rule that is broken, in the order
-    /// of `specs/Rules.antt`. The time and the memory are those of the file's size, whatever numbers
-    /// stand in it.
+    /// Reads a file of fewer than 2^32 bytes. A fault is the first rule that is broken, in the
+    /// order of `specs/Rules.antt`. The time and the memory are those of the file's size, whatever
+    /// numbers stand in it.
     ///
     /// System V ABI, "ELF Header" to "Symbol Table"; RISC-V ELF psABI, "File Header".
     pub fn read(alloc: Global, bytes: Vec<u8>, kind: Kind) -> Result<Elf, ElfFault>
@@ -47,7 +55,8 @@ impl Elf {
         ensures ok { IfOk result (IsElf bytes.items) }
         // A rule is answered exactly where it is the first that is broken, and a file exactly where
         // none is, unless memory ran out.
-        ensures fault { (result ≡ Err ElfFault.Memory) ⊎ (result_err result ≡ first_fault kind bytes.items) }
+        ensures fault { (result ≡ Err ElfFault.Memory)
+            ⊎ (result_err result ≡ first_fault kind bytes.items) }
     {
         let tables = read_tables(alloc, kind, &bytes)?;
         Ok(Elf { bytes, tables })
@@ -63,8 +72,8 @@ impl Elf {
     /// The program headers, in the order of the file.
     pub fn segments(&self) -> &[Segment]
         ensures value { result.now ≡ self.now.segments }
-        // The part of the file that a PT_LOAD names lies in the file and is not longer than its memory,
-        // and its memory ends at 2^64 or below.
+        // The part of the file that a PT_LOAD names lies in the file and is not longer than its
+        // memory, and its memory ends at 2^64 or below.
         ensures fit { All (FitsFile (length self.now.bytes)) self.now.segments }
     {
         self.tables.segments.as_slice()
@@ -75,7 +84,7 @@ impl Elf {
         requires { index < length self.now.segments }
         ensures value { result ≡ segment_place self.now.bytes index }
     {
-        self.tables.header.e_phoff + 56 * index as u64
+        self.tables.header.e_phoff + PHENTSIZE as u64 * index as u64
     }
 
     /// The section headers, in the order of the file.

@@ -2,6 +2,10 @@
 ghost use Rattle.std.specs.Prelude.{◌≡◌, ◌≤◌, ◌+◌, length};
 ghost use Rattle.elf_read.specs.Records.{header_of};
 
+use crate::constants::{
+    E_ENTRY_PLACE, E_FLAGS_PLACE, E_MACHINE_PLACE, E_PHENTSIZE_PLACE, E_PHNUM_PLACE, E_PHOFF_PLACE,
+    E_SHENTSIZE_PLACE, E_SHNUM_PLACE, E_SHOFF_PLACE, E_SHSTRNDX_PLACE, E_TYPE_PLACE, EHSIZE,
+};
 use crate::fields::{u16_at, u32_at, u64_at};
 
 // The header of the file, with the names of ELF64, but for the bytes of e_ident.
@@ -25,20 +29,20 @@ pub struct Header {
 // The header of a file that is long enough for one.
 #[tactic(auto, unfolding(crate::specs::Records::header_of))]
 pub fn header_of(bytes: &[u8]) -> Header
-    requires { 64 ≤ length bytes.now }
+    requires { EHSIZE ≤ length bytes.now }
     ensures { result ≡ header_of bytes.now }
 {
     Header {
-        e_type: u16_at(bytes, 16),
-        e_machine: u16_at(bytes, 18),
-        e_entry: u64_at(bytes, 24),
-        e_phoff: u64_at(bytes, 32),
-        e_shoff: u64_at(bytes, 40),
-        e_flags: u32_at(bytes, 48),
-        e_phentsize: u16_at(bytes, 54),
-        e_phnum: u16_at(bytes, 56),
-        e_shentsize: u16_at(bytes, 58),
-        e_shnum: u16_at(bytes, 60),
-        e_shstrndx: u16_at(bytes, 62),
+        e_type: u16_at(bytes, E_TYPE_PLACE),
+        e_machine: u16_at(bytes, E_MACHINE_PLACE),
+        e_entry: u64_at(bytes, E_ENTRY_PLACE),
+        e_phoff: u64_at(bytes, E_PHOFF_PLACE),
+        e_shoff: u64_at(bytes, E_SHOFF_PLACE),
+        e_flags: u32_at(bytes, E_FLAGS_PLACE),
+        e_phentsize: u16_at(bytes, E_PHENTSIZE_PLACE),
+        e_phnum: u16_at(bytes, E_PHNUM_PLACE),
+        e_shentsize: u16_at(bytes, E_SHENTSIZE_PLACE),
+        e_shnum: u16_at(bytes, E_SHNUM_PLACE),
+        e_shstrndx: u16_at(bytes, E_SHSTRNDX_PLACE),
     }
 }

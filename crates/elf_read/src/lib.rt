@@ -33,7 +33,7 @@
 //! The names of sections, and the relocations of an executable file, are not looked at.
 #![tactic(auto)]
 
-mod constants;
+pub mod constants;
 mod elf;
 mod fault;
 mod fields;
@@ -44,8 +44,6 @@ mod records;
 mod rules;
 mod symbols;
 mod tables;
-#[cfg(test)]
-mod tests;
 
 pub use elf::{Elf, Kind};
 pub use fault::ElfFault;

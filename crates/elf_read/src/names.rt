@@ -1,7 +1,8 @@
 //! Where names end.
 ghost use Rattle.std.specs.Prelude.{◌≡◌, ◌<◌, ◌^◌, ◌==◌, length, drop, IfOk};
 ghost use Rattle.std.specs.List.{position_or_len};
-ghost use Rattle.elf_read.specs.Names.{zeros_from, IsRising, IsFirstFrom};
+ghost use Rattle.wf_outside.specs.Lists.{IsRising};
+ghost use Rattle.elf_read.specs.Names.{zeros_from, IsFirstFrom};
 
 use std::alloc::{AllocError, Global};
 

@@ -6,6 +6,7 @@ ghost use Rattle.elf_read.specs.Reading.{Checks, Answers, IsLaidOut, AreSymbolsI
 ghost use Rattle.elf_read.specs.Rules.{header_rules, segment_rules, section_rules, symbol_rules, first_fault};
 ghost use Rattle.elf_read.specs.Elf.{FitsFile, IsNamed, IsKept};
 
+use crate::constants::EHSIZE;
 use crate::header::{Header, header_of};
 use crate::rules::{
     check_ident, check_layout, check_sections, check_segments, check_symbols, check_target, require,
@@ -32,7 +33,7 @@ pub fn checked_header(kind: Kind, bytes: &[u8]) -> Result<Header, ElfFault>
     ensures laid_out { IfOk result (IsLaidOut (length bytes.now)) }
 {
     let size = bytes.len() as u64;
-    require(size >= 64, ElfRule::Short, size)?;
+    require(size >= EHSIZE as u64, ElfRule::Short, size)?;
     check_ident(bytes)?;
     let header = header_of(bytes);
     check_target(kind, &header)?;
@@ -49,7 +50,8 @@ pub fn checked_segments(
     requires few { length bytes.now < 2 ^ 32 }
     requires laid_out { IsLaidOut (length bytes.now) header.now }
     ensures first { let segments = segments_of bytes.now header.now in
-        Answers result (segment_rules (length bytes.now) header.now segments) (λ v. v.items ≡ segments) }
+        Answers result (segment_rules (length bytes.now) header.now segments)
+        (λ v. v.items ≡ segments) }
     ensures fit { IfOk result (λ v. All (FitsFile (length bytes.now)) v.items) }
 {
     let at = header.e_phoff as usize;
@@ -67,7 +69,8 @@ pub fn checked_sections(
     requires few { length bytes.now < 2 ^ 32 }
     requires laid_out { IsLaidOut (length bytes.now) header.now }
     ensures first { let sections = sections_of bytes.now header.now in
-        Answers result (section_rules (length bytes.now) header.now sections) (λ v. v.items ≡ sections) }
+        Answers result (section_rules (length bytes.now) header.now sections)
+        (λ v. v.items ≡ sections) }
     ensures symbols { IfOk result (λ v. AreSymbolsIn (length bytes.now) (symbol_table v.items)) }
 {
     let at = header.e_shoff as usize;
@@ -98,11 +101,15 @@ pub fn checked_symbols(
 pub fn read_tables(alloc: Global, kind: Kind, bytes: &[u8]) -> Result<Tables, ElfFault>
     requires { length bytes.now < 2 ^ 32 }
     ensures header { IfOk result (λ t. t.header ≡ header_of bytes.now) }
-    ensures segments { IfOk result (λ t. t.segments.items ≡ segments_of bytes.now (header_of bytes.now)) }
-    ensures sections { IfOk result (λ t. t.sections.items ≡ sections_of bytes.now (header_of bytes.now)) }
-    ensures symbols { IfOk result (λ t. t.symbols.items ≡ symbols_of bytes.now (symbol_table t.sections.items)) }
+    ensures segments { IfOk result
+        (λ t. t.segments.items ≡ segments_of bytes.now (header_of bytes.now)) }
+    ensures sections { IfOk result
+        (λ t. t.sections.items ≡ sections_of bytes.now (header_of bytes.now)) }
+    ensures symbols { IfOk result
+        (λ t. t.symbols.items ≡ symbols_of bytes.now (symbol_table t.sections.items)) }
     ensures kept { IfOk result (λ t. IsKept bytes.now t.header t.segments.items t.symbols.items) }
-    ensures fault { (result ≡ Err ElfFault.Memory) ⊎ (result_err result ≡ first_fault kind bytes.now) }
+    ensures fault { (result ≡ Err ElfFault.Memory)
+        ⊎ (result_err result ≡ first_fault kind bytes.now) }
 {
     let header = checked_header(kind, bytes)?;
     let segments = checked_segments(alloc, bytes, &header)?;

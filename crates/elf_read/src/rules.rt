@@ -3,12 +3,15 @@ ghost use Rattle.std.specs.Prelude.{◌≡◌, ◌<◌, ◌≤◌, ◌+◌, ◌*
 ghost use Rattle.std.specs.List.{enumerate_from};
 ghost use Rattle.std.specs.Option.{option_map};
 ghost use Rattle.std.specs.Result.{result_err};
+ghost use Rattle.wf_outside.specs.Lists.{first_of};
 ghost use Rattle.elf_read.specs.Records.{is_symtab};
-ghost use Rattle.elf_read.specs.Rules.{unless, unless_each, first_of, type_of, ident_rules, target_rules, layout_rules, fits_file, lies_in_file, is_strings, has_symbols, is_only_symtab, ends_in, has_home, segment_rules, section_rules, symbol_rules};
+ghost use Rattle.elf_read.specs.Rules.{unless, unless_each, type_of, ident_rules, target_rules, layout_rules, fits_file, lies_in_file, is_strings, has_symbols, is_only_symtab, ends_in, has_home, segment_rules, section_rules, symbol_rules};
 
 use crate::constants::{
-    EF_RISCV_RVC, EF_RISCV_RVE, ELFCLASS64, ELFDATA2LSB, EM_RISCV, ET_EXEC, PT_LOAD, SHN_LORESERVE,
-    SHN_XINDEX, SHT_NOBITS, SHT_NULL, SHT_STRTAB, SHT_SYMTAB,
+    E_FLAGS_PLACE, E_MACHINE_PLACE, E_PHENTSIZE_PLACE, E_PHOFF_PLACE, E_SHENTSIZE_PLACE,
+    E_SHOFF_PLACE, E_SHSTRNDX_PLACE, E_TYPE_PLACE, EF_RISCV_RVC, EF_RISCV_RVE, EHSIZE, EI_CLASS,
+    EI_DATA, ELFCLASS64, ELFDATA2LSB, EM_RISCV, ET_EXEC, PHENTSIZE, PT_LOAD, SHENTSIZE,
+    SHN_LORESERVE, SHN_XINDEX, SHT_NOBITS, SHT_NULL, SHT_STRTAB, SHT_SYMTAB, SYMENTSIZE,
 };
 use crate::header::Header;
 use crate::symbols::SymbolTable;
@@ -28,12 +31,20 @@ pub fn require(holds: bool, rule: ElfRule, at: u64) -> Result<(), ElfFault>
 
 // The first rule of the identification that is broken.
 pub fn check_ident(bytes: &[u8]) -> Result<(), ElfFault>
-    requires { 64 ≤ length bytes.now }
+    requires { EHSIZE ≤ length bytes.now }
     ensures { result_err result ≡ first_of (ident_rules bytes.now) }
 {
     require(bytes.starts_with(b"\x7FELF"), ElfRule::Magic, 0)?;
-    require(bytes[4] == ELFCLASS64, ElfRule::Class, 4)?;
-    require(bytes[5] == ELFDATA2LSB, ElfRule::Order, 5)
+    require(
+        bytes[EI_CLASS] == ELFCLASS64,
+        ElfRule::Class,
+        EI_CLASS as u64,
+    )?;
+    require(
+        bytes[EI_DATA] == ELFDATA2LSB,
+        ElfRule::Order,
+        EI_DATA as u64,
+    )
 }
 
 // The number in the header of a kind of file.
@@ -49,14 +60,22 @@ fn type_of(kind: Kind) -> u16
 pub fn check_target(kind: Kind, header: &Header) -> Result<(), ElfFault>
     ensures { result_err result ≡ first_of (target_rules kind header.now) }
 {
-    require(header.e_type == type_of(kind), ElfRule::Kind, 16)?;
-    require(header.e_machine == EM_RISCV, ElfRule::Machine, 18)?;
+    require(
+        header.e_type == type_of(kind),
+        ElfRule::Kind,
+        E_TYPE_PLACE as u64,
+    )?;
+    require(
+        header.e_machine == EM_RISCV,
+        ElfRule::Machine,
+        E_MACHINE_PLACE as u64,
+    )?;
     let plain = header.e_flags & EF_RISCV_RVC == 0 && header.e_flags & EF_RISCV_RVE == 0;
-    require(plain, ElfRule::Flags, 48)
+    require(plain, ElfRule::Flags, E_FLAGS_PLACE as u64)
 }
 
 // Where so many bytes from a place on end.
-fn end_of(at: u64, len: u64) -> u128
+fn range_end(at: u64, len: u64) -> u128
     ensures { result ≡ at + len }
 {
     u128::from(at) + u128::from(len)
@@ -66,7 +85,7 @@ fn end_of(at: u64, len: u64) -> u128
 fn is_within(at: u64, len: u64, size: u64) -> bool
     ensures { result ≡ nat_le (at + len) size }
 {
-    end_of(at, len) <= u128::from(size)
+    range_end(at, len) <= u128::from(size)
 }
 
 // The first rule about the tables of headers that is broken.
@@ -75,22 +94,26 @@ pub fn check_layout(size: u64, header: &Header) -> Result<(), ElfFault>
 {
     let h = header;
     let no_segments = h.e_phnum == 0;
-    require(no_segments || h.e_phentsize == 56, ElfRule::Table, 54)?;
     require(
-        no_segments || is_within(h.e_phoff, 56 * u64::from(h.e_phnum), size),
+        no_segments || usize::from(h.e_phentsize) == PHENTSIZE,
         ElfRule::Table,
-        32,
+        E_PHENTSIZE_PLACE as u64,
+    )?;
+    require(
+        no_segments || is_within(h.e_phoff, PHENTSIZE as u64 * u64::from(h.e_phnum), size),
+        ElfRule::Table,
+        E_PHOFF_PLACE as u64,
     )?;
     let plain = if h.e_shnum == 0 {
         h.e_shoff == 0
     } else {
-        h.e_shentsize == 64
+        usize::from(h.e_shentsize) == SHENTSIZE
     };
-    require(plain, ElfRule::Table, 58)?;
+    require(plain, ElfRule::Table, E_SHENTSIZE_PLACE as u64)?;
     require(
-        is_within(h.e_shoff, 64 * u64::from(h.e_shnum), size),
+        is_within(h.e_shoff, SHENTSIZE as u64 * u64::from(h.e_shnum), size),
         ElfRule::Table,
-        40,
+        E_SHOFF_PLACE as u64,
     )
 }
 
@@ -101,7 +124,7 @@ fn fits_file(size: u64, segment: &Segment) -> bool
     segment.p_type != PT_LOAD
         || (is_within(segment.p_offset, segment.p_filesz, size)
             && segment.p_filesz <= segment.p_memsz
-            && end_of(segment.p_vaddr, segment.p_memsz) <= 1 << 64)
+            && range_end(segment.p_vaddr, segment.p_memsz) <= 1 << 64)
 }
 
 // A section with bytes in the file has them there.
@@ -124,8 +147,8 @@ fn is_strings(sections: &[Section], i: usize) -> bool
 fn has_symbols(sections: &[Section], section: &Section) -> bool
     ensures { result ≡ has_symbols sections.now section.now }
 {
-    section.sh_entsize == 24
-        && section.sh_size % 24 == 0
+    section.sh_entsize == SYMENTSIZE as u64
+        && section.sh_size % SYMENTSIZE as u64 == 0
         && is_strings(sections, section.sh_link as usize)
 }
 
@@ -177,7 +200,8 @@ fn is_only_symtab(sections: &[Section], first: Option<usize>, i: usize, section:
 
 // The number of the first symbol table that is not the only one, or has no symbols.
 fn first_wrong_symtab(sections: &[Section]) -> Option<usize>
-    ensures value { result ≡ position (λ s. not (is_only_symtab sections.now s)) (enumerate_from 0 sections.now) }
+    ensures value { result
+        ≡ position (λ s. not (is_only_symtab sections.now s)) (enumerate_from 0 sections.now) }
     ensures bound { IfSome result (λ i. i < length sections.now) }
 {
     let first = first_symtab(sections);
@@ -190,36 +214,46 @@ fn first_wrong_symtab(sections: &[Section]) -> Option<usize>
 // The first rule about segments that is broken.
 #[tactic(auto, unfolding(crate::specs::Rules::segment_rules))]
 pub fn check_segments(file: u64, header: &Header, segments: &[Segment]) -> Result<(), ElfFault>
-    requires { 0 < length segments.now → header.now.e_phoff + 56 * length segments.now < 2 ^ 64 }
+    requires { 0 < length segments.now → header.now.e_phoff + PHENTSIZE * length segments.now < 2 ^ 64 }
     ensures { result_err result ≡ first_of (segment_rules file header.now segments.now) }
 {
     require_none(
         first_unfit(file, segments),
         ElfRule::Range,
         header.e_phoff,
-        56,
+        PHENTSIZE as u64,
     )
 }
 
 // The first rule about sections that is broken.
 #[tactic(auto, unfolding(crate::specs::Rules::section_rules))]
 pub fn check_sections(file: u64, header: &Header, sections: &[Section]) -> Result<(), ElfFault>
-    requires { header.now.e_shoff + 64 * length sections.now < 2 ^ 64 }
+    requires { header.now.e_shoff + SHENTSIZE * length sections.now < 2 ^ 64 }
     ensures { result_err result ≡ first_of (section_rules file header.now sections.now) }
 {
     let at = header.e_shoff;
-    require_none(first_outside(file, sections), ElfRule::Range, at, 64)?;
+    require_none(
+        first_outside(file, sections),
+        ElfRule::Range,
+        at,
+        SHENTSIZE as u64,
+    )?;
     let names = header.e_shstrndx as usize;
     let named = header.e_shnum == 0 || names == 0 || is_strings(sections, names);
-    require(named, ElfRule::Strings, 62)?;
-    require_none(first_wrong_symtab(sections), ElfRule::Table, at, 64)
+    require(named, ElfRule::Strings, E_SHSTRNDX_PLACE as u64)?;
+    require_none(
+        first_wrong_symtab(sections),
+        ElfRule::Table,
+        at,
+        SHENTSIZE as u64,
+    )
 }
 
 // The end of the name lies in the string table.
 fn ends_in(names: Span, symbol: &Symbol) -> bool
     ensures { result ≡ ends_in names symbol.now }
 {
-    end_of(symbol.st_name.at, symbol.st_name.len) < end_of(names.at, names.len)
+    range_end(symbol.st_name.at, symbol.st_name.len) < range_end(names.at, names.len)
 }
 
 // The number of the first symbol whose name does not end in the string table.
@@ -253,11 +287,11 @@ pub fn check_symbols(
     table: &SymbolTable,
     symbols: &[Symbol],
 ) -> Result<(), ElfFault>
-    requires { table.now.at + 24 * length symbols.now < 2 ^ 64 }
+    requires { table.now.at + SYMENTSIZE * length symbols.now < 2 ^ 64 }
     ensures { result_err result ≡ first_of (symbol_rules header.now table.now symbols.now) }
 {
     let unnamed = first_unnamed(table.names, symbols);
-    require_none(unnamed, ElfRule::Strings, table.at, 24)?;
+    require_none(unnamed, ElfRule::Strings, table.at, SYMENTSIZE as u64)?;
     let homeless = first_homeless(header.e_shnum, symbols);
-    require_none(homeless, ElfRule::Table, table.at, 24)
+    require_none(homeless, ElfRule::Table, table.at, SYMENTSIZE as u64)
 }

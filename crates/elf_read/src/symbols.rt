@@ -4,7 +4,7 @@ ghost use Rattle.std.specs.Option.{option_copied};
 ghost use Rattle.elf_read.specs.Names.{zeros_from};
 ghost use Rattle.elf_read.specs.Records.{is_symtab, symbol_table, part, name_at, symbol_at, symbols_of};
 
-use crate::constants::SHT_SYMTAB;
+use crate::constants::{SHT_SYMTAB, SYMENTSIZE};
 use crate::fields::{u16_at, u32_at, u64_at};
 use crate::names::{name_len, zeros_of};
 use crate::{Section, Span, Symbol};
@@ -43,7 +43,7 @@ pub fn symbol_table(sections: &[Section]) -> SymbolTable
     };
     SymbolTable {
         at: symtab.sh_offset,
-        count: symtab.sh_size / 24,
+        count: symtab.sh_size / SYMENTSIZE as u64,
         names: Span {
             at: strtab.sh_offset,
             len: strtab.sh_size,
@@ -75,7 +75,7 @@ fn name_at(bytes: &[u8], names: Span, zeros: &[u32], at: u32) -> Span
 // The symbol at a place.
 #[tactic(auto, unfolding(crate::specs::Records::symbol_at))]
 fn symbol_at(bytes: &[u8], names: Span, zeros: &[u32], at: usize) -> Symbol
-    requires room { at + 24 ≤ length bytes.now }
+    requires room { at + SYMENTSIZE ≤ length bytes.now }
     requires within { names.at + names.len ≤ length bytes.now }
     requires zeros { zeros.now ≡ zeros_from 0 (part bytes.now names) }
     ensures { result ≡ symbol_at bytes.now names at }
@@ -97,7 +97,7 @@ pub fn read_symbols(
     table: &SymbolTable,
 ) -> Result<Vec<Symbol>, AllocError>
     requires few { length bytes.now < 2 ^ 32 }
-    requires entries { table.now.at + 24 * table.now.count ≤ length bytes.now }
+    requires entries { table.now.at + SYMENTSIZE * table.now.count ≤ length bytes.now }
     requires names { table.now.names.at + table.now.names.len ≤ length bytes.now }
     ensures { IfOk result (λ symbols. symbols.items ≡ symbols_of bytes.now table.now) }
 {
@@ -105,6 +105,6 @@ pub fn read_symbols(
     let zeros = zeros_of(alloc, part(bytes, names))?;
     let at = table.at as usize;
     (0..table.count as usize)
-        .map(|i| symbol_at(bytes, names, &zeros, at + 24 * i))
+        .map(|i| symbol_at(bytes, names, &zeros, at + SYMENTSIZE * i))
         .collect(alloc)
 }

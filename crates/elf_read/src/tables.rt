@@ -2,6 +2,7 @@
 ghost use Rattle.std.specs.Prelude.{◌≡◌, ◌≤◌, ◌<◌, ◌+◌, ◌*◌, length, IfOk};
 ghost use Rattle.elf_read.specs.Records.{segment_at, section_at, table};
 
+use crate::constants::{PHENTSIZE, SHENTSIZE};
 use crate::fields::{u32_at, u64_at};
 use crate::{Section, Segment};
 use std::alloc::{AllocError, Global};
@@ -9,7 +10,7 @@ use std::alloc::{AllocError, Global};
 // The program header at a place.
 #[tactic(auto, unfolding(crate::specs::Records::segment_at))]
 fn segment_at(bytes: &[u8], at: usize) -> Segment
-    requires { at + 56 ≤ length bytes.now }
+    requires { at + PHENTSIZE ≤ length bytes.now }
     ensures { result ≡ segment_at bytes.now at }
 {
     Segment {
@@ -27,7 +28,7 @@ fn segment_at(bytes: &[u8], at: usize) -> Segment
 // The section header at a place.
 #[tactic(auto, unfolding(crate::specs::Records::section_at))]
 fn section_at(bytes: &[u8], at: usize) -> Section
-    requires { at + 64 ≤ length bytes.now }
+    requires { at + SHENTSIZE ≤ length bytes.now }
     ensures { result ≡ section_at bytes.now at }
 {
     Section {
@@ -51,11 +52,11 @@ pub fn read_segments(
     at: usize,
     count: usize,
 ) -> Result<Vec<Segment>, AllocError>
-    requires { 0 < count → at + 56 * count ≤ length bytes.now }
-    ensures { IfOk result (λ segments. segments.items ≡ table (segment_at bytes.now) at 56 count) }
+    requires { 0 < count → at + PHENTSIZE * count ≤ length bytes.now }
+    ensures { IfOk result (λ segments. segments.items ≡ table (segment_at bytes.now) at PHENTSIZE count) }
 {
     (0..count)
-        .map(|i| segment_at(bytes, at + 56 * i))
+        .map(|i| segment_at(bytes, at + PHENTSIZE * i))
         .collect(alloc)
 }
 
@@ -66,10 +67,10 @@ pub fn read_sections(
     at: usize,
     count: usize,
 ) -> Result<Vec<Section>, AllocError>
-    requires { at + 64 * count ≤ length bytes.now }
-    ensures { IfOk result (λ sections. sections.items ≡ table (section_at bytes.now) at 64 count) }
+    requires { at + SHENTSIZE * count ≤ length bytes.now }
+    ensures { IfOk result (λ sections. sections.items ≡ table (section_at bytes.now) at SHENTSIZE count) }
 {
     (0..count)
-        .map(|i| section_at(bytes, at + 64 * i))
+        .map(|i| section_at(bytes, at + SHENTSIZE * i))
         .collect(alloc)
 }

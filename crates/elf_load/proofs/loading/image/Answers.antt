@@ -1,5 +1,6 @@
 use Rattle.std.proofs.Common.{length, ◌<◌, ◌∙◌, ap, sym, subst}
 use Rattle.std.specs.List.{All}
+use Rattle.wf_outside.specs.declared.sizes.TheConstants.{DATA_END_PAGE}
 use Rattle.elf_load.specs.Segments.{is_met}
 use Rattle.elf_load.specs.Loaded.{page_behind}
 use Rattle.elf_load.proofs.NumberLemmas.{below_low}
@@ -16,7 +17,7 @@ page_numbers-requires-clause-low c = end_low (length c.args.elf.now.bytes) c.arg
 
 pub page_behind-requires : goal.page_behind-requires
 page_behind-requires c =
-    subst (All (λ n. n < 0x3E00000)) (sym (c.deref-2.ensures.value ∙ c.in_ok-numbers.ensures)) (below_low 0x3E00000 (is_met c.args.loads.now))
+    subst (All (λ n. n < DATA_END_PAGE)) (sym (c.deref-2.ensures.value ∙ c.in_ok-numbers.ensures)) (below_low DATA_END_PAGE (is_met c.args.loads.now))
 
 pub invariant_of-result : goal.invariant_of-result
 invariant_of-result c =

@@ -1,114 +1,69 @@
-//! Files that were laid out by hand: a good one, and what each change of it is answered with.
-use crate::{Elf, ElfFault, Kind, Section, Segment, Span, Symbol};
-use std::alloc::{AllocError, Global};
+//! A good file, and what each change of it is answered with, worked out by hand.
+ghost use Rattle.std.specs.Prelude.{◌<◌, ◌^◌, vec_len};
+
+use elf_builder::{BuilderFault, ElfBuilder, WantedSegment, WantedSymbol};
+use elf_read::{Elf, ElfFault, Kind, Section, Segment, Span, Symbol};
+use std::alloc::Global;
 use std::process::Abort;
 use std::test::Fail;
 use wf_outside::ElfRule;
 
+// How many bytes the good file has.
+const SIZE: usize = 440;
+
 // So many bytes of a number at a place, the lowest first.
 #[derive(Clone, Copy, Debug)]
-struct Field(u16, u8, u64);
+struct Field(u64, usize, u64);
 
-fn put(bytes: &mut [u8], field: Field) {
+fn put(builder: &mut ElfBuilder, field: Field) -> Result<(), BuilderFault> {
     let Field(at, width, value) = field;
-    for (i, byte) in value.to_le_bytes().iter().take(width as usize).enumerate() {
-        if let Some(place) = bytes.get_mut(at as usize + i) {
-            *place = *byte;
-        }
-    }
+    builder.change(at, &value.to_le_bytes()[..width.min(8)])
 }
 
 // A file of 440 bytes with one segment of 8 bytes at 120, two symbols at 128, their names at 176 (a
 // zero byte, `go` and a zero byte), and the headers of four sections at 184: null, text, the symbol
 // table and the string table.
-fn good(alloc: Global) -> Result<Vec<u8>, AllocError> {
-    let fields = [
-        Field(0, 8, 0x01_01_02_46_4C_45_7F),
-        Field(16, 2, 2),
-        Field(18, 2, 243),
-        Field(20, 4, 1),
-        Field(24, 8, 0x10078),
-        Field(32, 8, 64),
-        Field(40, 8, 184),
-        Field(52, 2, 64),
-        Field(54, 2, 56),
-        Field(56, 2, 1),
-        Field(58, 2, 64),
-        Field(60, 2, 4),
-        Field(62, 2, 3),
-        // the program header
-        Field(64, 4, 1),
-        Field(68, 4, 5),
-        Field(72, 8, 120),
-        Field(80, 8, 0x10078),
-        Field(88, 8, 0x10078),
-        Field(96, 8, 8),
-        Field(104, 8, 8),
-        Field(112, 8, 4),
-        // the symbol `go`
-        Field(152, 4, 1),
-        Field(156, 1, 0x12),
-        Field(158, 2, 1),
-        Field(160, 8, 0x10078),
-        Field(168, 8, 8),
-        // the names
-        Field(176, 4, 0x00_6F_67_00),
-        // the section of text
-        Field(252, 4, 1),
-        Field(256, 8, 6),
-        Field(264, 8, 0x10078),
-        Field(272, 8, 120),
-        Field(280, 8, 8),
-        Field(296, 8, 4),
-        // the symbol table
-        Field(316, 4, 2),
-        Field(336, 8, 128),
-        Field(344, 8, 48),
-        Field(352, 4, 3),
-        Field(356, 4, 1),
-        Field(360, 8, 8),
-        Field(368, 8, 24),
-        // the string table
-        Field(380, 4, 3),
-        Field(400, 8, 176),
-        Field(408, 8, 4),
-        Field(424, 8, 1),
-    ];
-    let mut bytes = vec![in alloc; 0; 440]?;
-    for field in fields {
-        put(&mut bytes, field);
-    }
-    Ok(bytes)
+fn good(alloc: Global) -> Result<ElfBuilder, BuilderFault> {
+    let mut builder = ElfBuilder::new(alloc);
+    builder.header.e_entry = 0x10078;
+    builder.segment(&WantedSegment {
+        p_type: 1,
+        p_flags: 5,
+        p_vaddr: 0x10078,
+        bytes: &[0; 8],
+        p_memsz: 8,
+        p_align: 4,
+    })?;
+    builder.symbol(&WantedSymbol {
+        name: b"go",
+        st_info: 0x12,
+        st_shndx: 1,
+        st_value: 0x10078,
+        st_size: 8,
+    })?;
+    Ok(builder)
 }
 
 fn rule(rule: ElfRule, at: u64) -> Option<ElfFault> {
     Some(ElfFault::Rule { rule, at })
 }
 
-fn read(rt: &impl Abort, alloc: Global, bytes: Vec<u8>) -> Result<Elf, ElfFault> {
-    assert!(rt; bytes.len() <= 440);
-    Elf::read(alloc, bytes, Kind::Exec)
+// What the good file is answered with after some changes.
+fn after(alloc: Global, changes: &[Field]) -> Result<Option<ElfFault>, BuilderFault> {
+    let mut builder = good(alloc)?;
+    for change in changes {
+        put(&mut builder, *change)?;
+    }
+    Ok(Elf::read(alloc, builder.build()?, Kind::Exec).err())
 }
 
-// What the good file is answered with after some changes.
-fn after(
-    rt: &impl Abort,
-    alloc: Global,
-    changes: &[Field],
-) -> Result<Option<ElfFault>, AllocError> {
-    let mut bytes = good(alloc)?;
-    for change in changes {
-        put(&mut bytes, *change);
-    }
-    Ok(read(rt, alloc, bytes).err())
+fn good_elf(alloc: Global) -> Result<Elf, Fail> {
+    Ok(Elf::read(alloc, good(alloc)?.build()?, Kind::Exec)?)
 }
 
 #[test]
-fn reads(rt: HostRuntime) -> Result<(), Fail> {
-    let bytes = good(rt.alloc())?;
-    let Ok(elf) = read(&rt, rt.alloc(), bytes) else {
-        panic!(rt);
-    };
+fn reads_segments(rt: HostRuntime) -> Result<(), Fail> {
+    let elf = good_elf(rt.alloc())?;
     assert_eq!(rt; elf.entry(), 0x10078);
     let segments = [Segment {
         p_type: 1,
@@ -122,6 +77,12 @@ fn reads(rt: HostRuntime) -> Result<(), Fail> {
     }];
     assert!(rt; elf.segments() == segments.as_slice());
     assert_eq!(rt; elf.segment_place(0), 64);
+    Ok(())
+}
+
+#[test]
+fn reads_sections(rt: HostRuntime) -> Result<(), Fail> {
+    let elf = good_elf(rt.alloc())?;
     assert_eq!(rt; elf.sections().len(), 4);
     let text = Section {
         sh_name: 0,
@@ -136,41 +97,47 @@ fn reads(rt: HostRuntime) -> Result<(), Fail> {
         sh_entsize: 0,
     };
     assert!(rt; elf.sections().get(1) == Some(&text));
-    let symbols = [
-        Symbol {
-            st_name: Span { at: 176, len: 0 },
-            st_info: 0,
-            st_other: 0,
-            st_shndx: 0,
-            st_value: 0,
-            st_size: 0,
-        },
-        Symbol {
-            st_name: Span { at: 177, len: 2 },
-            st_info: 0x12,
-            st_other: 0,
-            st_shndx: 1,
-            st_value: 0x10078,
-            st_size: 8,
-        },
-    ];
-    assert!(rt; elf.symbols() == symbols.as_slice());
-    assert_eq!(rt; elf.bytes(elf.symbols()[1].st_name), b"go".as_slice());
     assert!(rt; elf.relas().is_empty());
     Ok(())
 }
 
 #[test]
+fn reads_symbols(rt: HostRuntime) -> Result<(), Fail> {
+    let elf = good_elf(rt.alloc())?;
+    let none = Symbol {
+        st_name: Span { at: 176, len: 0 },
+        st_info: 0,
+        st_other: 0,
+        st_shndx: 0,
+        st_value: 0,
+        st_size: 0,
+    };
+    let go = Symbol {
+        st_name: Span { at: 177, len: 2 },
+        st_info: 0x12,
+        st_other: 0,
+        st_shndx: 1,
+        st_value: 0x10078,
+        st_size: 8,
+    };
+    assert!(rt; elf.symbols() == [none, go].as_slice());
+    assert_eq!(rt; elf.bytes(elf.symbols()[1].st_name), b"go".as_slice());
+    Ok(())
+}
+
+#[test]
 fn cut_files(rt: HostRuntime) -> Result<(), Fail> {
-    for len in 0..440u16 {
-        let mut bytes = good(rt.alloc())?;
-        bytes.truncate(len as usize);
+    let whole = good(rt.alloc())?.build()?;
+    assert_eq!(rt; whole.len(), SIZE);
+    for len in 0..SIZE {
+        let bytes = whole[..len].to_vec(rt.alloc())?;
         let wanted = match len {
-            0..64 => rule(ElfRule::Short, u64::from(len)),
+            0..64 => rule(ElfRule::Short, len as u64),
             64..120 => rule(ElfRule::Table, 32),
             _ => rule(ElfRule::Table, 40),
         };
-        assert_eq!(rt; read(&rt, rt.alloc(), bytes).err(), wanted, "{len} bytes");
+        let got = Elf::read(rt.alloc(), bytes, Kind::Exec).err();
+        assert_eq!(rt; got, wanted, "{len} bytes");
     }
     Ok(())
 }
@@ -271,7 +238,7 @@ fn changed_files(rt: HostRuntime) -> Result<(), Fail> {
         ),
     ];
     for (one, other, wanted) in cases {
-        let got = after(&rt, rt.alloc(), &[one, other])?;
+        let got = after(rt.alloc(), &[one, other])?;
         assert_eq!(rt; got, wanted, "{one:?} {other:?}");
     }
     Ok(())
@@ -286,9 +253,6 @@ fn second_symbol_table(rt: HostRuntime) -> Result<(), Fail> {
         Field(288, 4, 3),
         Field(304, 8, 24),
     ];
-    assert_eq!(rt;
-        after(&rt, rt.alloc(), &changes)?,
-        rule(ElfRule::Table, 312)
-    );
+    assert_eq!(rt; after(rt.alloc(), &changes)?, rule(ElfRule::Table, 312));
     Ok(())
 }

@@ -1,105 +1,83 @@
-//! What no clause says: the rules with their places, and images, against values worked out by hand.
-ghost use Rattle.std.specs.Prelude.{◌<◌, ◌^◌, IfOk, vec_len};
-
-use crate::{LoadFault, load};
-use byteorder::{ByteOrder, LittleEndian};
+//! The rules of loading with their places, and images, against values worked out by hand.
+use elf_builder::{ElfBuilder, WantedSegment, WantedSymbol};
+use elf_load::{LoadFault, load};
 use elf_read::{Elf, Kind};
-use std::alloc::{AllocError, Global};
+use std::alloc::Global;
 use std::process::Abort;
 use std::test::Fail;
 use wf_outside::{Image, LoadRule};
 
-const FILE_BYTES: usize = 608;
-
 // Eight bytes of a file: where they stand, and their number, lowest byte first.
-type Change = (u16, u64);
+type Change = (u64, u64);
 
-// A file that breaks no rule: one segment of text at 0x10000, one of data from 0x12004 to 0x13014 of
-// which eight bytes are in the file, a note, six symbols, and their names. The program headers stand at
-// 64, 120 and 176.
-const GOOD: [Change; 41] = [
-    // the header
-    (0, 0x0001_0102_464C_457F),
-    (16, 0x0000_0001_00F3_0002),
-    (24, 0x1_0000),
-    (32, 64),
-    (40, 416),
-    (48, 0x0038_0040_0000_0000),
-    (56, 0x0000_0003_0040_0003),
-    // text
-    (64, 0x5_0000_0001),
-    (72, 232),
-    (80, 0x1_0000),
-    (96, 12),
-    (104, 12),
-    // data
-    (120, 0x6_0000_0001),
-    (128, 244),
-    (136, 0x1_2004),
-    (152, 8),
-    (160, 0x1010),
-    // a note
-    (176, 0x4_0000_0004),
-    // 12 bytes of text, 8 bytes of data
-    (232, 0x0070_0513_0000_0893),
-    (240, 0x4433_2211_0000_0073),
-    (248, 0x8877_6655),
-    // symbols: none, a, b of no section, c of the common ones, d with a number, one without a name
-    (280, 0x0001_0000_0000_0001),
-    (288, 0x1_0000),
-    (296, 8),
-    (304, 0x0000_0010_0000_0003),
-    (328, 0xFFF2_0011_0000_0005),
-    (336, 8),
-    (344, 4),
-    (352, 0xFFF1_0012_0000_0007),
-    (360, 0x77),
-    (376, 0x0001_0010_0000_0000),
-    (384, 0x1_0004),
-    // names
-    (400, 0x6400_6300_6200_6100),
-    // section headers: none, the symbols, the names
-    (480, 0x0000_0002_0000_0000),
-    (504, 256),
-    (512, 144),
-    (520, 0x0000_0001_0000_0002),
-    (536, 24),
-    (544, 0x0000_0003_0000_0000),
-    (568, 400),
-    (576, 9),
-];
+const TEXT: [u8; 12] = [0x93, 8, 0, 0, 0x13, 5, 0x70, 0, 0x73, 0, 0, 0];
 
-fn put(bytes: &mut [u8], (at, number): Change) {
-    let at = usize::from(at);
-    if at + 8 <= bytes.len() {
-        LittleEndian::write_u64(&mut bytes[at..], number);
+const DATA: [u8; 8] = [0x11, 0x22, 0x33, 0x44, 0x55, 0x66, 0x77, 0x88];
+
+fn segment<'a>(
+    p_type: u32,
+    p_flags: u32,
+    p_vaddr: u64,
+    bytes: &'a [u8],
+    p_memsz: u64,
+) -> WantedSegment<'a> {
+    WantedSegment {
+        p_type,
+        p_flags,
+        p_vaddr,
+        bytes,
+        p_memsz,
+        p_align: 4,
     }
 }
 
-// The good file with changes.
-fn file(alloc: Global, changes: &[Change]) -> Result<Vec<u8>, AllocError>
-    ensures { IfOk result (λ bytes. vec_len bytes < 2 ^ 32) }
-{
-    let mut bytes = vec![in alloc; 0; FILE_BYTES]?;
-    for change in GOOD {
-        put(&mut bytes, change);
+fn symbol<'a>(
+    name: &'a [u8],
+    st_info: u8,
+    st_shndx: u16,
+    st_value: u64,
+    st_size: u64,
+) -> WantedSymbol<'a> {
+    WantedSymbol {
+        name,
+        st_info,
+        st_shndx,
+        st_value,
+        st_size,
     }
-    for change in changes {
-        put(&mut bytes, *change);
-    }
-    Ok(bytes)
 }
 
+// A file that breaks no rule: one segment of text at 0x10000, whose bytes stand at 232; one of data
+// from 0x12004 to 0x13014, of which eight bytes are in the file, at 244; a note; and six symbols: none,
+// a, b of no section, c of the common ones, d with a number, and one without a name. The program
+// headers stand at 64, 120 and 176.
+fn good(alloc: Global) -> Result<ElfBuilder, Fail> {
+    let mut builder = ElfBuilder::new(alloc);
+    builder.segment(&segment(1, 5, 0x1_0000, &TEXT, 12))?;
+    builder.segment(&segment(1, 6, 0x1_2004, &DATA, 0x1010))?;
+    builder.segment(&segment(4, 4, 0, &[], 0))?;
+    builder.symbol(&symbol(b"a", 0, 1, 0x1_0000, 8))?;
+    builder.symbol(&symbol(b"b", 0x10, 0, 0, 0))?;
+    builder.symbol(&symbol(b"c", 0x11, 0xFFF2, 8, 4))?;
+    builder.symbol(&symbol(b"d", 0x12, 0xFFF1, 0x77, 0))?;
+    builder.symbol(&symbol(b"", 0x10, 1, 0x1_0004, 0))?;
+    Ok(builder)
+}
+
+// What is loaded of the good file after some changes.
 fn outcome(alloc: Global, changes: &[Change]) -> Result<Result<Image, LoadFault>, Fail> {
-    let bytes = file(alloc, changes)?;
-    let elf = Elf::read(alloc, bytes, Kind::Exec)?;
+    let mut builder = good(alloc)?;
+    for (at, number) in changes {
+        builder.change(*at, &number.to_le_bytes())?;
+    }
+    let elf = Elf::read(alloc, builder.build()?, Kind::Exec)?;
     Ok(load(alloc, &elf))
 }
 
 // Each rule, its place, and which of two counts.
 #[test]
 fn faults(rt: HostRuntime) -> Result<(), Fail> {
-    let cases: [(&[Change], LoadRule, u64); 17] = [
+    let cases: [(&[Change], LoadRule, u64); 19] = [
         (&[(176, 7)], LoadRule::TlsSegment, 176),
         (&[(176, 3)], LoadRule::Interp, 176),
         (&[(176, 2)], LoadRule::Dynamic, 176),
@@ -123,6 +101,30 @@ fn faults(rt: HostRuntime) -> Result<(), Fail> {
             &[(136, 0x1_2000), (160, 0x1000_0000)],
             LoadRule::TooLarge,
             120,
+        ),
+        // 65,535 pages beside it are enough; the next header passes them, also with a page that is
+        // met already
+        (
+            &[
+                (136, 0x1_2000),
+                (160, 0x0FFF_F000),
+                (176, 0x6_0000_0001),
+                (192, 0x2000_0000),
+                (216, 1),
+            ],
+            LoadRule::TooLarge,
+            176,
+        ),
+        (
+            &[
+                (136, 0x1_2000),
+                (160, 0x0FFF_EFF0),
+                (176, 0x6_0000_0001),
+                (192, 0x1001_0FF0),
+                (216, 1),
+            ],
+            LoadRule::TooLarge,
+            176,
         ),
         // data on the page of text; the last byte of data; the first of two such pairs
         (&[(136, 0x1_0FF0), (160, 0x10)], LoadRule::SharedPage, 120),
@@ -188,6 +190,22 @@ struct Case<'a> {
     end: u32,
 }
 
+// What is loaded is what the case says.
+fn check(rt: &impl Abort, alloc: Global, image: &Image, case: Case) -> Result<(), Fail> {
+    let text: Vec<u32> = image.text.iter().map(|page| page.number).collect(alloc)?;
+    assert_eq!(rt; text.as_slice(), [0x10].as_slice());
+    let pages: Vec<(u32, bool)> = image
+        .pages
+        .iter()
+        .map(|page| (page.number, page.write))
+        .collect(alloc)?;
+    assert_eq!(rt; pages.as_slice(), case.pages);
+    has_words(rt, image, case.words);
+    assert_eq!(rt; image.end, case.end);
+    assert_eq!(rt; image.entry, 0x1_0000);
+    Ok(())
+}
+
 #[test]
 fn images(rt: HostRuntime) -> Result<(), Fail> {
     let cases = [
@@ -245,22 +263,19 @@ fn images(rt: HostRuntime) -> Result<(), Fail> {
     ];
     for case in cases {
         let image = outcome(rt.alloc(), case.changes)?.map_err(|_| "a fault")?;
-        let text: Vec<u32> = image
-            .text
-            .iter()
-            .map(|page| page.number)
-            .collect(rt.alloc())?;
-        assert_eq!(rt; text.as_slice(), [0x10].as_slice());
-        let pages: Vec<(u32, bool)> = image
-            .pages
-            .iter()
-            .map(|page| (page.number, page.write))
-            .collect(rt.alloc())?;
-        assert_eq!(rt; pages.as_slice(), case.pages);
-        has_words(&rt, &image, case.words);
-        assert_eq!(rt; image.end, case.end);
-        assert_eq!(rt; image.entry, 0x1_0000);
+        check(&rt, rt.alloc(), &image, case)?;
     }
+    Ok(())
+}
+
+// As many pages as an image may have: one of text, and 65,535 of data.
+#[test]
+fn largest(rt: HostRuntime) -> Result<(), Fail> {
+    let changes = [(136, 0x1_2000), (160, 0x0FFF_F000)];
+    let image = outcome(rt.alloc(), &changes)?.map_err(|_| "a fault")?;
+    assert_eq!(rt; image.text.len(), 1);
+    assert_eq!(rt; image.pages.len(), 65_535);
+    assert_eq!(rt; image.end, 0x1_0011);
     Ok(())
 }
 
