@@ -9,9 +9,8 @@ use Rattle.wf_flat.proofs.RisingLemmas.{length-places_with}
 use Rattle.wf_flat.proofs.SortLemmas.{length_distinct, length-sorted_by, length-map}
 use Rattle.std.proofs.Math.Seq.{drop-cons}
 use Rattle.wf_flat.specs.Lists.{with_number, sorted_by}
-use Rattle.wf_flat.specs.Counts.{places_with}
 use Rattle.wf_flat.specs.State.{PageState}
-use Rattle.wf_flat.specs.Boot.{fresh_page, stack_of, stacks_of, numbered_from, boot_hart, boot_harts, boot_text, boot_pages, boot_reach}
+use Rattle.wf_flat.specs.Boot.{fresh_page, stack_of, stacks_of, numbered_from, boot_hart, boot_harts, boot_text, boot_pages, boot_reach, places_with}
 
 -- the first so many are numbered
 abbrev pub numbered_to : ℕ → ℕ → List PageState → List PageState

@@ -6,11 +6,14 @@ use Rattle.std.proofs.lemmas.Option.{slice_get_within}
 use Rattle.wf_flat.specs.declared.event.Actor.TheVariants.{Hart}
 use Rattle.wf_flat.specs.declared.event.Event.TheVariants.{Sync}
 use Rattle.wf_flat.specs.State.{FlatState, HartState, PageState}
-use Rattle.wf_flat.specs.Memory.{page_of, data_in, with_met}
-use Rattle.wf_flat.specs.Accesses.{Access, holds, held_by}
+use Rattle.wf_outside.specs.Pages.{page_of}
+use Rattle.wf_flat.specs.Memory.{data_in, with_met}
+use Rattle.wf_flat.specs.Serving.{held_by}
+use Rattle.wf_flat.specs.Accesses.{Access, holds}
 use Rattle.wf_flat.specs.Ordered.{IsOrdered, page_numbers}
 use Rattle.wf_flat.specs.Steps.{OfHart, access_in, change_page, note_page, noted, noted_in, given_back, give_back, give_back_by, give_back_of, without, flat_after}
-use Rattle.wf_flat.proofs.FoundLemmas.{keys_changed, found_changed, others_alone}
+use Rattle.wf_flat.proofs.ListLemmas.{others_alone}
+use Rattle.wf_flat.proofs.FoundLemmas.{keys_changed, found_changed}
 
 abbrev pub paged : FlatState → List PageState → FlatState
 paged s pages = record s { pages = pages }

@@ -1,5 +1,5 @@
 -- A list by rising numbers of its elements: the element of a number, a search, a change of one element, and one more.
-use Rattle.std.proofs.Common.{◌≡◌, ◌<◌, ◌≤◌, ℕ, zero, suc, List, [], ◌∷◌, Option, Some, None, Ok, Err, length, get_or, map, refl, sym, ap, ◌∙◌, arith, inl, inr, slice_get, slice_set, is_some, true, false}
+use Rattle.std.proofs.Common.{◌≡◌, ◌==◌, ◌<◌, ◌≤◌, ℕ, zero, suc, List, [], ◌∷◌, Option, Some, None, Ok, Err, length, get_or, map, refl, sym, ap, ◌∙◌, arith, inl, inr, slice_get, slice_set, is_some, true, false, Bool, subst}
 use Rattle.std.specs.Option.{option_map}
 use Rattle.std.specs.List.{insert, AllByRecursion}
 use Rattle.std.specs.Ordering.{nat_cmp, ordering_index}
@@ -8,9 +8,12 @@ use Rattle.std.specs.List.Sorted.{IsBinarySearchResult}
 use Rattle.std.proofs.lemmas.Bool.{cases_order, cases_lt}
 use Rattle.std.proofs.lemmas.Bool.Decides.{nat_tests}
 use Rattle.std.proofs.lemmas.Option.{slice_get_cases, slice_get-get_or}
-use Rattle.wf_flat.specs.Lists.{IsRising, found_by, changed_by, inserted_by, others_changed, with_number}
-use Rattle.wf_flat.specs.Memory.{met_key, has_met, with_met}
-use Rattle.wf_flat.proofs.RisingLemmas.{all_at, rising_le, with_past, with_here, IsRising-with_number}
+use Rattle.wf_outside.specs.Lists.{IsRising}
+use Rattle.wf_flat.specs.Lists.{found_by, changed_by, inserted_by, with_number}
+use Rattle.wf_flat.specs.Memory.{met_key, has_met, with_met, data_in}
+use Rattle.wf_outside.proofs.RisingLemmas.{all_at, rising_le}
+use Rattle.wf_flat.proofs.RisingLemmas.{with_past, with_here, IsRising-with_number}
+use Rattle.wf_flat.specs.State.{PageState}
 
 module _ {A : Type 0} (key : A → ℕ) where
   found_past : (x : A) (xs : List A) (n : ℕ) → (key x ≡ n → ⊥) → found_by key (x ∷ xs) n ≡ found_by key xs n
@@ -210,13 +213,6 @@ module _ {A : Type 0} (key : A → ℕ) where
   pub rising_inserted : (x : A) (xs : List A) → IsRising (map key xs) → found_by key xs (key x) ≡ None → IsRising (map key (inserted_by key x xs))
   rising_inserted x xs up e = rw (keys_inserted x xs e) (IsRising-with_number (key x) (map key xs) up)
 
--- an element alone has no others
-pub others_alone : {A : Type 0} (xs : List A) (h : ℕ) (f : A → A) → length xs ≡ 1 → h < length xs → others_changed xs h f ≡ xs
-others_alone [] h f one lt = refl
-others_alone (x ∷ []) zero f one lt = refl
-others_alone (x ∷ []) (suc h) f one lt = absurd (omega arith)
-others_alone (x ∷ y ∷ xs) h f one lt = absurd (omega arith)
-
 -- what was met still rises with one more
 pub rising_met : (met : List (ℕ × ℕ)) (generation page : ℕ) → IsRising (map met_key met) → has_met met generation page ≡ false → IsRising (map met_key (with_met met generation page))
 rising_met met generation page up unmet = rising_inserted met_key (generation, page) met up (none_of (found_by met_key met (met_key (generation, page))) unmet)
@@ -231,3 +227,18 @@ pub rising_added : (old seen added : List (ℕ × ℕ)) (generation page at : �
 rising_added old seen added generation page at up unmet same is with =
     let w = rw same at with in
     rw (is ∙ sym w) (rising_met old generation page up unmet)
+
+-- a page of data that was found has the number that was looked for
+number_by : (p : PageState) (pages : List PageState) (n : ℕ) (page : PageState) (b : Bool) → (p.number == n) ≡ b → (data_in pages n ≡ Some page → page.number ≡ n) → data_in (p ∷ pages) n ≡ Some page → page.number ≡ n
+number_by p pages n page true t rest e =
+    let f : data_in (p ∷ pages) n ≡ Some p = rw t refl in
+    let same : p ≡ page = cc in
+    let numbers : p.number ≡ n = grind (arith, nat_tests) in
+    subst (λ (x : PageState). x.number ≡ n) same numbers
+number_by p pages n page false t rest e =
+    let f : data_in (p ∷ pages) n ≡ data_in pages n = rw t refl in
+    rest (sym f ∙ e)
+
+pub data_number : (pages : List PageState) (n : ℕ) (page : PageState) → data_in pages n ≡ Some page → page.number ≡ n
+data_number [] n page e = absurd (cc)
+data_number (p ∷ pages) n page e = number_by p pages n page (p.number == n) refl (data_number pages n page) e

@@ -1,3 +1,5 @@
+pub mod ListLemmas
+pub mod JournalLemmas
 pub mod RisingLemmas
 pub mod SortLemmas
 pub mod BootLemmas

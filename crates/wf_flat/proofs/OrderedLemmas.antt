@@ -5,15 +5,13 @@ use Rattle.std.specs.List.{AllByRecursion, IsDistinct}
 use Rattle.wf_outside.specs.Pages.{LimitsValue}
 use Rattle.wf_outside.specs.Images.{ImageValue, IsImage}
 use Rattle.wf_flat.specs.State.{PageState}
-use Rattle.wf_flat.specs.Lists.{IsRising, sorted_by}
+use Rattle.wf_outside.specs.Lists.{IsRising}
+use Rattle.wf_flat.specs.Lists.{sorted_by}
 use Rattle.wf_flat.specs.Ordered.{IsOrdered, page_numbers}
 use Rattle.wf_flat.specs.Boot.{fresh_page, stack_of, stacks_of, numbered_from, boot_pages, boot_of}
 use Rattle.wf_flat.proofs.SortLemmas.{IsRising-sorted_by, low_sorted}
 use Rattle.wf_flat.proofs.BootLemmas.{fresh_numbers, distinct_back}
-
-all_append : (P : ℕ → Type 0) (xs ys : List ℕ) → AllByRecursion P xs → AllByRecursion P ys → AllByRecursion P (xs ++ ys)
-all_append P [] ys all more = more
-all_append P (x ∷ xs) ys all more = (all.0, all_append P xs ys all.1 more)
+use Rattle.wf_flat.proofs.ListLemmas.{all_append}
 
 all_above : (x n : ℕ) (ys : List ℕ) → x < n → AllByRecursion (λ m. n ≤ m) ys → AllByRecursion (λ m. x < m) ys
 all_above x n [] lt all = tt

@@ -10,7 +10,8 @@ use Rattle.std.proofs.lemmas.Map.Keys.{IsDistinct-IsPermutation, IsDistinct-head
 use Rattle.std.specs.Prelude.{All}
 use Rattle.std.proofs.lemmas.List.Elements.{recursion_from_All}
 use Rattle.wf_flat.proofs.RisingLemmas.{length-rising}
-use Rattle.wf_flat.specs.Lists.{IsRising, inserted_by, sorted_by}
+use Rattle.wf_outside.specs.Lists.{IsRising}
+use Rattle.wf_flat.specs.Lists.{inserted_by, sorted_by}
 
 -- the element is in the list
 abbrev IsIn : {A : Type 0} → A → List A → Type 0
@@ -87,7 +88,8 @@ all_inserted P number x (y ∷ ys) h all = elim (cases_lt (number y) (number x))
   | inr le ↦ (rw (insert_here number x y ys le) (h, all))
 ]
 
-all_sorted : {A : Type 0} (P : A → Type 0) (number : A → ℕ) (xs : List A) → AllByRecursion P xs → AllByRecursion P (sorted_by number xs)
+-- what holds of all holds of all when they are sorted
+pub all_sorted : {A : Type 0} (P : A → Type 0) (number : A → ℕ) (xs : List A) → AllByRecursion P xs → AllByRecursion P (sorted_by number xs)
 all_sorted P number [] all = tt
 all_sorted P number (x ∷ xs) all = all_inserted P number x (sorted_by number xs) all.0 (all_sorted P number xs all.1)
 

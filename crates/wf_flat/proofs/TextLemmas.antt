@@ -5,7 +5,7 @@ use Rattle.std.specs.List.Sorted.{IsBinarySearchResult}
 use Rattle.std.proofs.lemmas.Option.{slice_get-get_or}
 use Rattle.wf_outside.specs.Pages.{PageValue}
 use Rattle.wf_outside.specs.Images.{text_numbers}
-use Rattle.wf_flat.specs.Lists.{IsRising}
+use Rattle.wf_outside.specs.Lists.{IsRising}
 use Rattle.wf_flat.specs.Memory.{page_in}
 use Rattle.wf_flat.proofs.FoundLemmas.{key_searched, key_missed}
 

@@ -3,7 +3,7 @@ use Rattle.std.proofs.Common.{◌≡◌, ◌⊎◌, ◌<◌, ◌≤◌, ◌+◌,
 use Rattle.std.proofs.Math.Nat.{add-mul, mul_assoc, mul_comm, mul-le-mul_right, div-div-eq-div-mul, div-mul-le_self}
 use Rattle.std.proofs.lemmas.Bool.{cases_lt}
 use Rattle.std.proofs.lemmas.Nat.{pow-add, pow_pos}
-use Rattle.wf_flat.specs.Memory.{IsPlace}
+use Rattle.wf_flat.specs.Serving.{IsPlace}
 
 -- a quotient is below n where the number is below n times the divisor
 div_below : (x y n : ℕ) → x < n * y → x / y < n

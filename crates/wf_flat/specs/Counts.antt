@@ -1,13 +1,8 @@
 -- How many frames a state takes: one for each page, and one for each node of each live view. A view
 -- is a tree of three levels (RISC-V privileged ISA, "Sv39"): a node of the lowest level maps 512 pages.
-use Rattle.std.specs.Prelude.{ℕ, ◌+◌, ◌/◌, List, [], ◌∷◌, if◌then◌else◌, length, sum_by}
+use Rattle.std.specs.Prelude.{ℕ, ◌+◌, List, [], if◌then◌else◌, length, sum_by}
 use Rattle.wf_flat.specs.State.{FlatState, GenState}
-use Rattle.wf_flat.specs.Lists.{with_number}
-
--- the numbers divided by 512, each once, rising, added to those that are there
-unfoldable pub places_with : List ℕ → List ℕ → List ℕ
-places_with places [] = places
-places_with places (n ∷ ns) = places_with (with_number (n / 512) places) ns
+use Rattle.wf_flat.specs.Boot.{places_with}
 
 -- the nodes of a view: the root, one for each 512 places, and one for each place
 abbrev pub nodes_of : List ℕ → ℕ

@@ -18,7 +18,8 @@ ends_unit event = false
 -- entries of one hart, up to and with the first that ends a unit
 abbrev pub IsUnit : ℕ → List Entry → Type 0
 IsUnit h [] = ⊥
-IsUnit h (entry ∷ entries) = (entry.actor ≡ Hart h) × MatchBool (ends_unit entry.event) (entries ≡ []) (IsUnit h entries)
+IsUnit h (entry ∷ entries) =
+    (entry.actor ≡ Hart h) × MatchBool (ends_unit entry.event) (entries ≡ []) (IsUnit h entries)
 
 -- the parts of a list
 pub record Splits {A : Type 0} (whole : List A) (P Q : List A → Type 0) : Type 0 where

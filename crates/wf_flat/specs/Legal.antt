@@ -23,22 +23,28 @@ at_rest flat = record { flat = flat; call = None }
 abbrev pub Allows : Moment → Actor → Event → Type 0
 Allows m Kernel Idle = Unit {0}
 Allows m actor event =
-    MatchBool (is_inside m.flat.inside actor) (IsNext (todo_left m.flat actor m.call) event) (MayAct m.flat actor event)
+    MatchBool (is_inside m.flat.inside actor) (IsNext (todo_left m.flat actor m.call) event)
+    (MayAct m.flat actor event)
 
 -- the call that is open after an entry
 abbrev pub call_after : Moment → Actor → Event → Option Call
 call_after m Kernel Idle = m.call
 call_after m actor Enter = Some Settling
 call_after m actor event =
-    if is_inside m.flat.inside actor then (if closes_call event then None else call_behind (todo_left m.flat actor m.call)) else m.call
+    if is_inside m.flat.inside actor
+    then (if closes_call event then None else call_behind (todo_left m.flat actor m.call))
+    else m.call
 
+-- the moment after an entry
 abbrev pub after : Moment → Actor → Event → Moment
-after m actor event = record { flat = flat_after m.flat actor event; call = call_after m actor event }
+after m actor event =
+    record { flat = flat_after m.flat actor event; call = call_after m actor event }
 
 -- each entry is allowed where it stands
 abbrev pub IsLegal : Moment → List Entry → Type 0
 IsLegal m [] = Unit {0}
-IsLegal m (entry ∷ entries) = Allows m entry.actor entry.event × IsLegal (after m entry.actor entry.event) entries
+IsLegal m (entry ∷ entries) =
+    Allows m entry.actor entry.event × IsLegal (after m entry.actor entry.event) entries
 
 -- the moment after all entries
 abbrev pub end_of : Moment → List Entry → Moment

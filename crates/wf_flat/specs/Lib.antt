@@ -11,3 +11,4 @@ pub mod Calls
 pub mod Legal
 pub mod Follows
 pub mod Unbuilt
+pub mod Serving

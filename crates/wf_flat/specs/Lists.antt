@@ -1,16 +1,11 @@
 -- Lists in the order of numbers.
-use Rattle.std.specs.Prelude.{ℕ, zero, suc, ◌<◌, ◌==◌, List, [], ◌∷◌, Option, None, Some, if◌then◌else◌, map, nat_lt, slice_get, slice_set}
-use Rattle.std.specs.List.{AllByRecursion}
-
--- each number is below all behind it
-abbrev pub IsRising : List ℕ → Type 0
-IsRising [] = Unit {0}
-IsRising (n ∷ ns) = AllByRecursion (λ m. n < m) ns × IsRising ns
+use Rattle.std.specs.Prelude.{ℕ, zero, suc, ◌==◌, List, [], ◌∷◌, Option, None, Some, if◌then◌else◌, map, nat_lt, slice_get, slice_set}
 
 -- one more element, before the first whose number is not below its own
 abbrev pub inserted_by : {A : Type 0} → (A → ℕ) → A → List A → List A
 inserted_by number x [] = x ∷ []
-inserted_by number x (y ∷ ys) = if nat_lt (number y) (number x) then y ∷ inserted_by number x ys else x ∷ y ∷ ys
+inserted_by number x (y ∷ ys) =
+    if nat_lt (number y) (number x) then y ∷ inserted_by number x ys else x ∷ y ∷ ys
 
 -- the elements by rising number
 abbrev pub sorted_by : {A : Type 0} → (A → ℕ) → List A → List A
@@ -20,7 +15,8 @@ sorted_by number (x ∷ xs) = inserted_by number x (sorted_by number xs)
 -- a rising list with one more number, where it isn't there yet
 abbrev pub with_number : ℕ → List ℕ → List ℕ
 with_number n [] = n ∷ []
-with_number n (m ∷ ms) = if nat_lt m n then m ∷ with_number n ms else (if m == n then m ∷ ms else n ∷ m ∷ ms)
+with_number n (m ∷ ms) =
+    if nat_lt m n then m ∷ with_number n ms else (if m == n then m ∷ ms else n ∷ m ∷ ms)
 
 -- the element at i changes, where it is there
 abbrev pub changed_at : {A : Type 0} → List A → ℕ → (A → A) → List A

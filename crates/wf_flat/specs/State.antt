@@ -2,14 +2,12 @@
 -- per generation, and the harts.
 use Rattle.std.specs.Prelude.{ℕ, List, Bool, Option}
 use Rattle.wf_outside.specs.Pages.{PageValue, LimitsValue}
-use Rattle.wf_outside.specs.Images.{text_numbers}
 use Rattle.wf_outside.specs.declared.image.Jump.{Jump}
 use Rattle.rv_inst.specs.Arch.{ArchState}
 use Rattle.wf_flat.specs.declared.event.Actor.{Actor}
 use Rattle.wf_flat.specs.declared.state.Stage.{Stage}
 use Rattle.wf_flat.specs.declared.state.Life.{Life}
 use Rattle.wf_flat.specs.declared.state.Reservation.{Reservation}
-use Rattle.wf_flat.specs.Lists.{IsRising}
 
 -- a page of data: its number and right, how far an unmap has come, the hart that holds it, its words,
 -- how often it was written since it was mapped, and the number of that mapping
@@ -32,11 +30,6 @@ pub record GenState : Type 0 where
   pub patches : ℕ
   pub reach : List ℕ
   pub live : Bool
-
--- what a generation keeps
-pub record IsGen (text : List PageValue) (reach : List ℕ) : Type 0 where
-  pub rising : IsRising (text_numbers text)
-  pub reach_rising : IsRising reach
 
 -- a hart: its generation and registers; in a try the word that it fetched, the answer of its access or
 -- call, whether its write was made, and the pages that moved since the fetch; its reservation

@@ -6,7 +6,7 @@ use Rattle.rv_inst.specs.Decoding.{inst_of}
 use Rattle.wf_flat.specs.declared.state.Life.TheVariants.{Running}
 use Rattle.wf_flat.specs.State.{FlatState, HartState}
 use Rattle.wf_flat.specs.Memory.{word_at}
-use Rattle.wf_flat.specs.Steps.{OfHart, text_of}
+use Rattle.wf_flat.specs.Steps.{OfHart, generation_text}
 
 -- the call of this number is the exit, the byte, the own generation, or none that there is
 abbrev pub is_built_call : ℕ → Bool
@@ -24,5 +24,6 @@ IsUnbuiltWord hart (Some word) = IsUnbuiltInst hart (inst_of word)
 
 -- the hart runs, is to begin a try at this pc, and what it is to do there is not built
 abbrev pub IsUnbuilt : FlatState → ℕ → ℕ → Type 0
-IsUnbuilt s h pc = OfHart s h (λ hart. (hart.life ≡ Running) × (hart.fetched ≡ None) × (pc ≡ hart.arch.pc)
-    × IsUnbuiltWord hart (word_at (text_of s hart.generation) pc))
+IsUnbuilt s h pc =
+    OfHart s h (λ hart. (hart.life ≡ Running) × (hart.fetched ≡ None) × (pc ≡ hart.arch.pc)
+    × IsUnbuiltWord hart (word_at (generation_text s hart.generation) pc))

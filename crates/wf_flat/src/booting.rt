@@ -3,16 +3,17 @@ ghost use Rattle.std.specs.Prelude.{◌≡◌, ◌<◌, ◌≤◌, ◌++◌, ◌
 ghost use Rattle.std.specs.List.{IsDistinct};
 ghost use Rattle.wf_outside.specs.Pages.{IsPage};
 ghost use Rattle.wf_outside.specs.Images.{text_numbers, data_numbers};
-ghost use Rattle.wf_flat.specs.Lists.{IsRising, sorted_by};
+ghost use Rattle.wf_outside.specs.Lists.{IsRising};
+ghost use Rattle.wf_flat.specs.Lists.{sorted_by};
 ghost use Rattle.wf_flat.specs.Ordered.{IsOrdered};
-ghost use Rattle.wf_flat.specs.Counts.{used_of, places_with};
-ghost use Rattle.wf_flat.specs.Boot.{fresh_page, stack_page, stack_of, stacks_of, numbered_from, boot_pages, boot_hart, boot_harts, boot_gen, boot_of};
+ghost use Rattle.wf_flat.specs.Counts.{used_of};
+ghost use Rattle.wf_flat.specs.Boot.{fresh_page, stack_page, stack_of, stacks_of, numbered_from, boot_pages, boot_hart, boot_harts, boot_gen, boot_of, places_with};
 
 use crate::counting::{add_numbers, frames_in};
 use crate::{Flat, FlatHart, FlatPage, Gen, Life, Stage};
 use rv_inst::Arch;
 use std::alloc::{AllocFailed, Global};
-use wf_outside::{DataPage, Image, Limits, Memory, Page};
+use wf_outside::{DATA_END, DATA_END_PAGE, DataPage, Image, Limits, Memory, PAGE_WORDS, Page};
 
 // The same page.
 fn copy_of(alloc: Global, page: &Page) -> Result<Page, Memory>
@@ -38,7 +39,8 @@ fn copies_of(alloc: Global, pages: &[Page]) -> Result<Vec<Page>, Memory>
 // The same pages, by rising number.
 fn sorted_text(alloc: Global, pages: &[Page]) -> Result<Vec<Page>, Memory>
     requires { IsDistinct nat_eq (text_numbers pages.now) }
-    ensures sorted { IfOk result (λ copies. copies.items ≡ sorted_by (λ page. page.number) pages.now) }
+    ensures sorted { IfOk result
+        (λ copies. copies.items ≡ sorted_by (λ page. page.number) pages.now) }
     ensures rising { IfOk result (λ copies. IsRising (text_numbers copies.items)) }
 {
     let mut text = copies_of(alloc, pages)?;
@@ -83,7 +85,8 @@ fn fresh_copies(alloc: Global, pages: &[DataPage]) -> Result<Vec<FlatPage>, Memo
 // The same, by rising number.
 fn sorted_copies(alloc: Global, pages: &[DataPage]) -> Result<Vec<FlatPage>, Memory>
     requires { IsDistinct nat_eq (data_numbers pages.now) }
-    ensures { IfOk result (λ copies. copies.items ≡ sorted_by (λ page. page.number) (map fresh_page pages.now)) }
+    ensures { IfOk result
+        (λ copies. copies.items ≡ sorted_by (λ page. page.number) (map fresh_page pages.now)) }
 {
     let mut copies = fresh_copies(alloc, pages)?;
     copies.sort_by_key(|page| page.number)?;
@@ -102,7 +105,7 @@ fn fresh_stack(alloc: Global, number: u32) -> Result<FlatPage, Memory>
     requires { number < 2 ^ 26 }
     ensures { IfOk result (λ page. page ≡ fresh_page (stack_page number)) }
 {
-    Ok(fresh(number, true, zeros(alloc, 512)?))
+    Ok(fresh(number, true, zeros(alloc, PAGE_WORDS)?))
 }
 
 // The stack of a hart comes behind the pages.
@@ -110,7 +113,7 @@ fn push_stack(alloc: Global, pages: &mut Vec<FlatPage>, i: u8) -> Result<(), Mem
     requires { i < 64 }
     ensures { OnOk result (pages.new.items ≡ pages.old.items ++ stack_of i) }
 {
-    let first = 0x3E0_000C + 16 * i as u32;
+    let first = DATA_END_PAGE + 12 + 16 * i as u32;
     pages.push(fresh_stack(alloc, first)?)?;
     pages.push(fresh_stack(alloc, first + 1)?)?;
     pages.push(fresh_stack(alloc, first + 2)?)?;
@@ -156,7 +159,7 @@ fn hart(alloc: Global, entry: u64, i: u8) -> FlatHart
     ensures { result ≡ boot_hart entry i }
 {
     let mut x = [0; 32];
-    x[2] = 0x3E_0001_0000 + 0x1_0000 * i as u64;
+    x[2] = DATA_END + 0x1_0000 + 0x1_0000 * i as u64;
     x[10] = i as u64;
     FlatHart {
         generation: 0,
@@ -198,8 +201,10 @@ fn numbers_of_data(alloc: Global, pages: &[FlatPage]) -> Result<Vec<u32>, Memory
 
 // The places of these pages.
 fn places_of(alloc: Global, text: &[Page], pages: &[FlatPage]) -> Result<Vec<u32>, Memory>
-    ensures places { IfOk result (λ places. places.items
-        ≡ places_with (places_with [] (text_numbers text.now)) (map (λ page. page.number) pages.now)) }
+    ensures places { IfOk result
+        (λ places. places.items
+        ≡ places_with (places_with [] (text_numbers text.now))
+        (map (λ page. page.number) pages.now)) }
     ensures rising { IfOk result (λ places. IsRising places.items) }
 {
     let mut places = Vec::new(alloc);
@@ -210,7 +215,9 @@ fn places_of(alloc: Global, text: &[Page], pages: &[FlatPage]) -> Result<Vec<u32
 
 // Generation 0, where these are the data pages.
 fn first_gen(alloc: Global, image: &Image, pages: &[FlatPage]) -> Result<Gen, Memory>
-    ensures { IfOk result (λ version. (harts : ℕ) → pages.now ≡ boot_pages image.now harts → version ≡ boot_gen image.now harts) }
+    ensures { IfOk result
+        (λ version. (harts : ℕ) → pages.now ≡ boot_pages image.now harts
+        → version ≡ boot_gen image.now harts) }
 {
     let text = sorted_text(alloc, &image.text)?;
     let reach = places_of(alloc, &text, pages)?;
@@ -268,7 +275,8 @@ pub fn boot(alloc: Global, image: &Image, harts: u8, limits: Limits) -> Result<F
     // The frames suffice, or both numbers say that they don't.
     ensures fits { OnOk result (used_of (boot_of image.now harts limits) ≤ limits.frames) }
     ensures no_frames { (need have : ℕ) → result ≡ Err (BootFault.NoFrames need have)
-        → (need ≡ used_of (boot_of image.now harts limits)) × (have ≡ limits.frames) × (have < need) }
+        → (need ≡ used_of (boot_of image.now harts limits)) × (have ≡ limits.frames)
+        × (have < need) }
 {
     let entry = image.entry;
     let pages = data_pages(alloc, image, harts)?;

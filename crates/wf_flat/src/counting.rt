@@ -1,11 +1,13 @@
 //! The places of pages, and how many frames they take.
 ghost use Rattle.std.specs.Prelude.{◌≡◌, ◌<◌, ◌+◌, ◌^◌, OnOk, OnErr, IfOk, length, true};
-ghost use Rattle.wf_flat.specs.Lists.{IsRising, with_number};
-ghost use Rattle.wf_flat.specs.Counts.{places_with, frames_of};
+ghost use Rattle.wf_outside.specs.Lists.{IsRising};
+ghost use Rattle.wf_flat.specs.Lists.{with_number};
+ghost use Rattle.wf_flat.specs.Boot.{places_with};
+ghost use Rattle.wf_flat.specs.Counts.{frames_of};
 
 use crate::Gen;
 use std::alloc::Global;
-use wf_outside::Memory;
+use wf_outside::{Memory, PAGE_WORDS};
 
 // One more number in a rising list, where it isn't there yet.
 fn add_number(numbers: &mut Vec<u32>, n: u32) -> Result<(), Memory>
@@ -32,7 +34,7 @@ pub fn add_numbers(places: &mut Vec<u32>, numbers: &[u32]) -> Result<(), Memory>
     ensures rising { IsRising places.new.items }
 {
     for n in numbers {
-        add_number(places, *n / 512)?;
+        add_number(places, *n / PAGE_WORDS as u32)?;
     }
     Ok(())
 }

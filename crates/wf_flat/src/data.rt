@@ -1,19 +1,24 @@
 //! Pages of data: finding, taking, writing and giving them back; and the pages that generations have met.
-ghost use Rattle.std.specs.Prelude.{◌≡◌, ◌<◌, ◌≤◌, ◌⊎◌, ◌*◌, ◌/◌, ◌%◌, ◌^◌, true, false, IfOk, OnOk, MatchOption, MatchResult, length, map, slice_get, option_copied};
+ghost use Rattle.std.specs.Prelude.{◌≡◌, ◌<◌, ◌≤◌, ◌*◌, ◌/◌, ◌%◌, ◌^◌, true, false, IfOk, OnOk, MatchOption, MatchResult, length, map, slice_get, option_copied};
 ghost use Rattle.std.specs.List.{insert};
-ghost use Rattle.wf_flat.specs.Lists.{IsRising, changed_by};
+ghost use Rattle.wf_outside.specs.declared.sizes.TheConstants.{PAGE_SIZE};
+ghost use Rattle.wf_outside.specs.Lists.{IsRising};
+ghost use Rattle.wf_flat.specs.Lists.{changed_by};
 ghost use Rattle.wf_flat.specs.Memory as memory;
-ghost use Rattle.wf_flat.specs.Memory.{IsPlace, page_of, data_in, met_key, with_met, number_in};
+ghost use Rattle.wf_outside.specs.Pages.{page_of};
+ghost use Rattle.wf_flat.specs.Serving.{IsPlace, IsWidth};
+ghost use Rattle.wf_flat.specs.Memory.{data_in, met_key, with_met, number_in};
 ghost use Rattle.wf_flat.specs.Ordered.{IsOrdered, page_numbers};
 ghost use Rattle.wf_flat.specs.Steps.{change_page, taken_by, put_with, given_back};
 
 use crate::{Flat, FlatPage};
-use wf_outside::Memory;
+use wf_outside::{Memory, PAGE_SIZE};
 
 // The place of the page of a number, in pages by rising number.
 fn place_of(pages: &[FlatPage], number: u64) -> Option<usize>
     requires { IsRising (page_numbers pages.now) }
-    ensures { MatchOption result (data_in pages.now number ≡ None) (λ at. (at < length pages.now) × (data_in pages.now number ≡ slice_get pages.now at)) }
+    ensures { MatchOption result (data_in pages.now number ≡ None)
+        (λ at. (at < length pages.now) × (data_in pages.now number ≡ slice_get pages.now at)) }
 {
     pages
         .binary_search_by_key(&number, |page| page.number as u64)
@@ -23,7 +28,9 @@ fn place_of(pages: &[FlatPage], number: u64) -> Option<usize>
 // The place of what a generation met in the table, or else the place where it would stand.
 fn met_at(met: &[(u32, u32)], generation: u32, page: u32) -> Result<usize, usize>
     requires { IsRising (map met_key met.now) }
-    ensures { MatchResult result (λ at. memory.has_met met.now generation page ≡ true) (λ at. (memory.has_met met.now generation page ≡ false) × (at ≤ length met.now) × (with_met met.now generation page ≡ insert met.now at (generation, page))) }
+    ensures { MatchResult result (λ at. memory.has_met met.now generation page ≡ true)
+        (λ at. (memory.has_met met.now generation page ≡ false) × (at ≤ length met.now)
+        × (with_met met.now generation page ≡ insert met.now at (generation, page))) }
 {
     met.binary_search_by_key(&key_of(generation, page), |pair| key_of(pair.0, pair.1))
 }
@@ -87,7 +94,7 @@ fn key_of(generation: u32, page: u32) -> u64
 // The number of `width` bytes of a page, 1, 2, 4 or 8, from a place on, lowest first.
 pub(crate) fn number_at(words: &[u64], at: u64, width: u8) -> u64
     requires there { at / 8 < length words.now }
-    requires width { (width ≡ 1) ⊎ ((width ≡ 2) ⊎ ((width ≡ 4) ⊎ (width ≡ 8))) }
+    requires width { IsWidth width }
     ensures { result ≡ number_in words.now at width }
 {
     let low = words[(at / 8) as usize] >> (8 * (at % 8));
@@ -125,23 +132,23 @@ fn word_with(word: u64, at: u64, width: u8, value: u64) -> u64
 impl FlatPage {
     /// The number of `width` bytes, 1, 2, 4 or 8, from a place of the page on, lowest first.
     pub fn number_at(&self, at: u64, width: u8) -> u64
-        requires within { at < 4096 }
-        requires width { (width ≡ 1) ⊎ ((width ≡ 2) ⊎ ((width ≡ 4) ⊎ (width ≡ 8))) }
+        requires within { at < PAGE_SIZE }
+        requires width { IsWidth width }
         ensures { result ≡ number_in self.now.words at width }
     {
         number_at(&self.words, at, width)
     }
 
     // A hart takes it.
-    fn take(&mut self, h: u8)
-        ensures { self.new ≡ taken_by h self.old }
+    fn take(&mut self, hart: u8)
+        ensures { self.new ≡ taken_by hart self.old }
     {
-        self.holder = Some(h);
+        self.holder = Some(hart);
     }
 
     // `width` bytes at a place are written.
     fn put(&mut self, at: u64, width: u8, value: u64)
-        requires within { at < 4096 }
+        requires within { at < PAGE_SIZE }
         requires place { IsPlace at width }
         ensures { self.new ≡ put_with at width value self.old }
     {
@@ -161,13 +168,13 @@ impl FlatPage {
 }
 
 // A hart takes the page of a number, where it is there.
-fn take_in(pages: &mut [FlatPage], number: u64, h: u8)
+fn take_in(pages: &mut [FlatPage], number: u64, hart: u8)
     requires { IsRising (page_numbers pages.old) }
-    ensures { pages.new ≡ changed_by (λ page. page.number) pages.old number (taken_by h) }
+    ensures { pages.new ≡ changed_by (λ page. page.number) pages.old number (taken_by hart) }
 {
     if let Some(at) = place_of(pages, number) {
         let page = &mut pages[at];
-        page.take(h);
+        page.take(hart);
     }
 }
 
@@ -175,18 +182,21 @@ fn take_in(pages: &mut [FlatPage], number: u64, h: u8)
 fn put_in(pages: &mut [FlatPage], va: u64, width: u8, value: u64)
     requires rising { IsRising (page_numbers pages.old) }
     requires place { IsPlace va width }
-    ensures { pages.new ≡ changed_by (λ page. page.number) pages.old (page_of va) (put_with (va % 4096) width value) }
+    ensures { pages.new
+        ≡ changed_by (λ page. page.number) pages.old (page_of va)
+        (put_with (va % PAGE_SIZE) width value) }
 {
-    if let Some(at) = place_of(pages, va / 4096) {
+    if let Some(at) = place_of(pages, va / PAGE_SIZE) {
         let page = &mut pages[at];
-        page.put(va % 4096, width, value);
+        page.put(va % PAGE_SIZE, width, value);
     }
 }
 
 // The page of a number is given back, where it is there.
 fn give_in(pages: &mut [FlatPage], number: u64, last_writes: u64, put: bool)
     requires { IsRising (page_numbers pages.old) }
-    ensures { pages.new ≡ changed_by (λ page. page.number) pages.old number (given_back last_writes put) }
+    ensures { pages.new
+        ≡ changed_by (λ page. page.number) pages.old number (given_back last_writes put) }
 {
     if let Some(at) = place_of(pages, number) {
         let page = &mut pages[at];
@@ -196,18 +206,19 @@ fn give_in(pages: &mut [FlatPage], number: u64, last_writes: u64, put: bool)
 
 impl Flat {
     // A hart takes the page of a number, where it is there.
-    pub(crate) fn take_page(&mut self, number: u64, h: u8)
+    pub(crate) fn take_page(&mut self, number: u64, hart: u8)
         requires { IsOrdered self.old }
-        ensures { self.new ≡ change_page self.old number (taken_by h) }
+        ensures { self.new ≡ change_page self.old number (taken_by hart) }
     {
-        take_in(&mut self.pages, number, h);
+        take_in(&mut self.pages, number, hart);
     }
 
     // Bytes of a page are written, where it is there.
     pub(crate) fn put_page(&mut self, va: u64, width: u8, value: u64)
         requires ordered { IsOrdered self.old }
         requires place { IsPlace va width }
-        ensures { self.new ≡ change_page self.old (page_of va) (put_with (va % 4096) width value) }
+        ensures { self.new
+            ≡ change_page self.old (page_of va) (put_with (va % PAGE_SIZE) width value) }
     {
         put_in(&mut self.pages, va, width, value);
     }
@@ -223,7 +234,8 @@ impl Flat {
     // The page of a number is given back, where it is there.
     pub(crate) fn give_page(&mut self, number: u64, put: bool)
         requires { IsOrdered self.old }
-        ensures { self.new ≡ change_page self.old number (given_back self.old.limits.last_writes put) }
+        ensures { self.new
+            ≡ change_page self.old number (given_back self.old.limits.last_writes put) }
     {
         let last_writes = self.last_writes();
         give_in(&mut self.pages, number, last_writes, put);

@@ -1,17 +1,19 @@
 //! What each entry of a hart changes.
 ghost use Rattle.std.specs.Prelude.{◌≡◌, ◌<◌, ◌%◌, ℕ, false, true, length, map, slice_get};
 ghost use Rattle.std.specs.Option.{option_map};
+ghost use Rattle.wf_outside.specs.declared.sizes.TheConstants.{PAGE_SIZE};
 ghost use Rattle.wf_flat.specs.declared.event.Event.TheVariants as events;
 ghost use Rattle.wf_flat.specs.Refusals.{refused_answer};
 ghost use Rattle.wf_flat.specs.Steps.{OfHart, flat_after, fetched_with, ended, exited_with, trapped_with, answered, without, arch_after, taken_by, put_with, written_by, give_back, change_hart, leave_hart, reserves, is_conditional, want_in, access_in, looked_with, reservation_of, swapped_by, missed};
-ghost use Rattle.wf_flat.specs.Accesses.{held_by};
-ghost use Rattle.wf_flat.specs.Lists.{IsRising};
-ghost use Rattle.wf_flat.specs.Memory.{HasOneMore, IsPlace, page_of, data_in, met_key, with_met};
-ghost use Rattle.wf_flat.specs.Ordered.{IsOrdered, page_numbers};
+ghost use Rattle.wf_flat.specs.Serving.{held_by, IsPlace};
+ghost use Rattle.wf_outside.specs.Lists.{IsRising};
+ghost use Rattle.wf_outside.specs.Pages.{page_of};
+ghost use Rattle.wf_flat.specs.Memory.{data_in, met_key, with_met};
+ghost use Rattle.wf_flat.specs.Ordered.{IsOrdered, page_numbers, HasOneMore};
 
 use crate::{Actor, Flat, FlatHart, Life, Reservation};
 use rv_inst::Arch;
-use wf_outside::Refusal;
+use wf_outside::{PAGE_SIZE, Refusal};
 
 impl FlatHart {
     // A try begins with this word.
@@ -123,32 +125,36 @@ pub fn answer_of(reason: Refusal) -> u64
 #[tactic(auto, using(crate::proofs::HartLemmas::hart_changes))]
 impl Flat {
     /// The change of a Fetch by this hart.
-    pub fn fetch(&mut self, h: u8, pc: u64, word: u32)
-        requires { h < length self.old.harts }
-        ensures state { self.new ≡ flat_after self.old (Actor.Hart h) (events.Fetch pc word) }
-        ensures hart { slice_get self.new.harts h ≡ option_map (fetched_with word) (slice_get self.old.harts h) }
+    pub fn fetch(&mut self, hart: u8, pc: u64, word: u32)
+        requires { hart < length self.old.harts }
+        ensures state { self.new ≡ flat_after self.old (Actor.Hart hart) (events.Fetch pc word) }
+        ensures hart { slice_get self.new.harts hart
+            ≡ option_map (fetched_with word) (slice_get self.old.harts hart) }
     {
-        let hart = &mut self.harts[h as usize];
-        hart.fetch(word);
+        let state = &mut self.harts[hart as usize];
+        state.fetch(word);
     }
 
     // The hart leaves the kernel, if it is inside.
-    fn leave(&mut self, h: u8)
-        ensures { self.new ≡ record self.old { inside = without self.old.inside (Actor.Hart h) } }
+    fn leave(&mut self, hart: u8)
+        ensures { self.new
+            ≡ record self.old { inside = without self.old.inside (Actor.Hart hart) } }
     {
-        if self.inside == Some(Actor::Hart(h)) {
+        if self.inside == Some(Actor::Hart(hart)) {
             self.inside = None;
         }
     }
 
     /// The change of a Look by this hart, which is no load-reserved.
-    pub fn look(&mut self, h: u8, va: u64, width: u8, value: u64)
-        requires { OfHart self.old h (λ hart. reserves (want_in hart) ≡ false) }
-        ensures state { self.new ≡ flat_after self.old (Actor.Hart h) (events.Look va width value) }
-        ensures hart { slice_get self.new.harts h ≡ option_map (answered value) (slice_get self.old.harts h) }
+    pub fn look(&mut self, hart: u8, va: u64, width: u8, value: u64)
+        requires { OfHart self.old hart (λ state. reserves (want_in state) ≡ false) }
+        ensures state { self.new
+            ≡ flat_after self.old (Actor.Hart hart) (events.Look va width value) }
+        ensures hart { slice_get self.new.harts hart
+            ≡ option_map (answered value) (slice_get self.old.harts hart) }
     {
-        let hart = &mut self.harts[h as usize];
-        hart.answer(value);
+        let state = &mut self.harts[hart as usize];
+        state.answer(value);
     }
 
     // What a load-reserved leaves.
@@ -156,7 +162,7 @@ impl Flat {
         requires { IsOrdered self.now }
         ensures { result ≡ reservation_of self.now va width (data_in self.now.pages (page_of va)) }
     {
-        let page = self.data_page(va / 4096)?;
+        let page = self.data_page(va / PAGE_SIZE)?;
         if page.writes < self.limits.last_writes {
             Some(Reservation {
                 va,
@@ -171,182 +177,203 @@ impl Flat {
 
     /// The change of a Look by this hart, which is a load-reserved. It takes time in the logarithm of the
     /// pages.
-    pub fn reserve(&mut self, h: u8, va: u64, width: u8, value: u64)
-        requires reserves { OfHart self.old h (λ hart. reserves (want_in hart) ≡ true) }
+    pub fn reserve(&mut self, hart: u8, va: u64, width: u8, value: u64)
+        requires reserves { OfHart self.old hart (λ state. reserves (want_in state) ≡ true) }
         requires ordered { IsOrdered self.old }
-        ensures state { self.new ≡ flat_after self.old (Actor.Hart h) (events.Look va width value) }
-        ensures hart { slice_get self.new.harts h ≡ option_map (looked_with self.old va width value) (slice_get self.old.harts h) }
+        ensures state { self.new
+            ≡ flat_after self.old (Actor.Hart hart) (events.Look va width value) }
+        ensures hart { slice_get self.new.harts hart
+            ≡ option_map (looked_with self.old va width value) (slice_get self.old.harts hart) }
     {
         let reservation = self.reservation_at(va, width);
-        let hart = &mut self.harts[h as usize];
-        hart.reserve(value, reservation);
+        let state = &mut self.harts[hart as usize];
+        state.reserve(value, reservation);
     }
 
     /// The change of a Take by this hart, on a machine of one. It takes time in the logarithm of the pages.
-    pub fn take(&mut self, h: u8, page: u32)
+    pub fn take(&mut self, hart: u8, page: u32)
         requires alone { length self.old.harts ≡ 1 }
-        requires there { h < length self.old.harts }
+        requires there { hart < length self.old.harts }
         requires ordered { IsOrdered self.old }
-        ensures state { self.new ≡ flat_after self.old (Actor.Hart h) (events.Take page) }
+        ensures state { self.new ≡ flat_after self.old (Actor.Hart hart) (events.Take page) }
         ensures harts { self.new.harts ≡ self.old.harts }
-        ensures page { data_in self.new.pages page ≡ option_map (taken_by h) (data_in self.old.pages page) }
+        ensures page { data_in self.new.pages page
+            ≡ option_map (taken_by hart) (data_in self.old.pages page) }
         ensures ordered { IsOrdered self.new }
         ensures numbers { page_numbers self.new.pages ≡ page_numbers self.old.pages }
     {
-        self.take_page(page as u64, h);
+        self.take_page(page as u64, hart);
     }
 
     // The write of a hart is made.
-    fn write(&mut self, h: u8)
-        requires { OfHart self.old h (λ hart. is_conditional (want_in hart) ≡ false) }
-        ensures { self.new ≡ change_hart self.old h written_by }
+    fn write(&mut self, hart: u8)
+        requires { OfHart self.old hart (λ state. is_conditional (want_in state) ≡ false) }
+        ensures { self.new ≡ change_hart self.old hart written_by }
     {
-        let hart = &mut self.harts[h as usize];
-        hart.write();
+        let state = &mut self.harts[hart as usize];
+        state.write();
     }
 
     /// The change of a Put by this hart, which is no store-conditional. It takes time in the logarithm of
     /// the pages.
-    pub fn put(&mut self, h: u8, va: u64, width: u8, value: u64)
-        requires plain { OfHart self.old h (λ hart. is_conditional (want_in hart) ≡ false) }
+    pub fn put(&mut self, hart: u8, va: u64, width: u8, value: u64)
+        requires plain { OfHart self.old hart (λ state. is_conditional (want_in state) ≡ false) }
         requires place { IsPlace va width }
         requires ordered { IsOrdered self.old }
-        ensures state { self.new ≡ flat_after self.old (Actor.Hart h) (events.Put va width value) }
-        ensures hart { slice_get self.new.harts h ≡ option_map written_by (slice_get self.old.harts h) }
-        ensures page { data_in self.new.pages (page_of va) ≡ option_map (put_with (va % 4096) width value) (data_in self.old.pages (page_of va)) }
+        ensures state { self.new
+            ≡ flat_after self.old (Actor.Hart hart) (events.Put va width value) }
+        ensures hart { slice_get self.new.harts hart
+            ≡ option_map written_by (slice_get self.old.harts hart) }
+        ensures page { data_in self.new.pages (page_of va)
+            ≡ option_map (put_with (va % PAGE_SIZE) width value)
+            (data_in self.old.pages (page_of va)) }
         ensures ordered { IsOrdered self.new }
         ensures numbers { page_numbers self.new.pages ≡ page_numbers self.old.pages }
     {
         self.put_page(va, width, value);
-        self.write(h);
+        self.write(hart);
     }
 
     // The write of a hart is made, which is a store-conditional's.
-    fn write_if(&mut self, h: u8)
-        requires { OfHart self.old h (λ hart. is_conditional (want_in hart) ≡ true) }
-        ensures { self.new ≡ change_hart self.old h written_by }
+    fn write_if(&mut self, hart: u8)
+        requires { OfHart self.old hart (λ state. is_conditional (want_in state) ≡ true) }
+        ensures { self.new ≡ change_hart self.old hart written_by }
     {
-        let hart = &mut self.harts[h as usize];
-        hart.write_if();
+        let state = &mut self.harts[hart as usize];
+        state.write_if();
     }
 
     /// The change of a Put by this hart, which is a store-conditional. It takes time in the logarithm of
     /// the pages.
-    pub fn put_if(&mut self, h: u8, va: u64, width: u8, value: u64)
-        requires conditional { OfHart self.old h (λ hart. is_conditional (want_in hart) ≡ true) }
+    pub fn put_if(&mut self, hart: u8, va: u64, width: u8, value: u64)
+        requires conditional { OfHart self.old hart
+            (λ state. is_conditional (want_in state) ≡ true) }
         requires place { IsPlace va width }
         requires ordered { IsOrdered self.old }
-        ensures state { self.new ≡ flat_after self.old (Actor.Hart h) (events.Put va width value) }
-        ensures hart { slice_get self.new.harts h ≡ option_map written_by (slice_get self.old.harts h) }
-        ensures page { data_in self.new.pages (page_of va) ≡ option_map (put_with (va % 4096) width value) (data_in self.old.pages (page_of va)) }
+        ensures state { self.new
+            ≡ flat_after self.old (Actor.Hart hart) (events.Put va width value) }
+        ensures hart { slice_get self.new.harts hart
+            ≡ option_map written_by (slice_get self.old.harts hart) }
+        ensures page { data_in self.new.pages (page_of va)
+            ≡ option_map (put_with (va % PAGE_SIZE) width value)
+            (data_in self.old.pages (page_of va)) }
         ensures ordered { IsOrdered self.new }
         ensures numbers { page_numbers self.new.pages ≡ page_numbers self.old.pages }
     {
         self.put_page(va, width, value);
-        self.write_if(h);
+        self.write_if(hart);
     }
 
     // The atomic memory operation of a hart is made, which read this.
-    fn exchange(&mut self, h: u8, got: u64)
-        requires { h < length self.old.harts }
-        ensures { self.new ≡ change_hart self.old h (swapped_by got) }
+    fn exchange(&mut self, hart: u8, got: u64)
+        requires { hart < length self.old.harts }
+        ensures { self.new ≡ change_hart self.old hart (swapped_by got) }
     {
-        let hart = &mut self.harts[h as usize];
-        hart.swap(got);
+        let state = &mut self.harts[hart as usize];
+        state.swap(got);
     }
 
     /// The change of a Swap by this hart, which read one value and writes another. It takes time in the
     /// logarithm of the pages.
-    pub fn swap(&mut self, h: u8, va: u64, width: u8, got: u64, value: u64)
-        requires there { h < length self.old.harts }
+    pub fn swap(&mut self, hart: u8, va: u64, width: u8, got: u64, value: u64)
+        requires there { hart < length self.old.harts }
         requires place { IsPlace va width }
         requires ordered { IsOrdered self.old }
-        ensures state { self.new ≡ flat_after self.old (Actor.Hart h) (events.Swap va width got value) }
-        ensures hart { slice_get self.new.harts h ≡ option_map (swapped_by got) (slice_get self.old.harts h) }
-        ensures page { data_in self.new.pages (page_of va) ≡ option_map (put_with (va % 4096) width value) (data_in self.old.pages (page_of va)) }
+        ensures state { self.new
+            ≡ flat_after self.old (Actor.Hart hart) (events.Swap va width got value) }
+        ensures hart { slice_get self.new.harts hart
+            ≡ option_map (swapped_by got) (slice_get self.old.harts hart) }
+        ensures page { data_in self.new.pages (page_of va)
+            ≡ option_map (put_with (va % PAGE_SIZE) width value)
+            (data_in self.old.pages (page_of va)) }
         ensures ordered { IsOrdered self.new }
         ensures numbers { page_numbers self.new.pages ≡ page_numbers self.old.pages }
     {
         self.put_page(va, width, value);
-        self.exchange(h, got);
+        self.exchange(hart, got);
     }
 
     /// The change of a Miss of this hart.
-    pub fn miss(&mut self, h: u8, va: u64)
-        requires { h < length self.old.harts }
-        ensures state { self.new ≡ flat_after self.old (Actor.Hart h) (events.Miss va) }
-        ensures hart { slice_get self.new.harts h ≡ option_map missed (slice_get self.old.harts h) }
+    pub fn miss(&mut self, hart: u8, va: u64)
+        requires { hart < length self.old.harts }
+        ensures state { self.new ≡ flat_after self.old (Actor.Hart hart) (events.Miss va) }
+        ensures hart { slice_get self.new.harts hart
+            ≡ option_map missed (slice_get self.old.harts hart) }
     {
-        let hart = &mut self.harts[h as usize];
-        hart.miss();
+        let state = &mut self.harts[hart as usize];
+        state.miss();
     }
 
     // Whether a hart has made its write.
-    fn has_put(&self, h: u8) -> bool
-        requires { h < length self.now.harts }
-        ensures { OfHart self.now h (λ hart. result ≡ hart.put) }
+    fn has_put(&self, hart: u8) -> bool
+        requires { hart < length self.now.harts }
+        ensures { OfHart self.now hart (λ state. result ≡ state.put) }
     {
-        let hart = &self.harts[h as usize];
-        hart.put
+        let state = &self.harts[hart as usize];
+        state.put
     }
 
     // The hart, which is alone, gives back the page of its access that it holds.
-    fn give_back(&mut self, h: u8, held: Option<u32>)
+    fn give_back(&mut self, hart: u8, held: Option<u32>)
         requires alone { length self.old.harts ≡ 1 }
         requires ordered { IsOrdered self.old }
-        requires held { OfHart self.old h (λ hart. held ≡ held_by self.old h (access_in hart)) }
-        ensures state { self.new ≡ give_back self.old h }
+        requires held { OfHart self.old hart
+            (λ state. held ≡ held_by self.old hart (access_in state)) }
+        ensures state { self.new ≡ give_back self.old hart }
         ensures harts { self.new.harts ≡ self.old.harts }
         ensures inside { self.new.inside ≡ self.old.inside }
         ensures ordered { IsOrdered self.new }
         ensures numbers { page_numbers self.new.pages ≡ page_numbers self.old.pages }
     {
         if let Some(page) = held {
-            let put = self.has_put(h);
+            let put = self.has_put(hart);
             self.give_page(page as u64, put);
         }
     }
 
     // A hart leaves the kernel, if it is inside, and its try ends.
-    fn finish(&mut self, h: u8, next: Arch)
-        requires { OfHart self.old h (λ hart. next ≡ arch_after hart) }
-        ensures { self.new ≡ leave_hart self.old h ended }
+    fn finish(&mut self, hart: u8, next: Arch)
+        requires { OfHart self.old hart (λ state. next ≡ arch_after state) }
+        ensures { self.new ≡ leave_hart self.old hart ended }
     {
-        self.leave(h);
-        let hart = &mut self.harts[h as usize];
-        hart.end(next);
+        self.leave(hart);
+        let state = &mut self.harts[hart as usize];
+        state.end(next);
     }
 
     /// The change of an End by this hart, on a machine of one. `next` are the pc and registers after its
     /// instruction or its call, and `held` is the page of its access, if it holds it.
-    pub fn end(&mut self, h: u8, held: Option<u32>, next: Arch)
+    pub fn end(&mut self, hart: u8, held: Option<u32>, next: Arch)
         requires alone { length self.old.harts ≡ 1 }
         requires ordered { IsOrdered self.old }
-        requires held { OfHart self.old h (λ hart. held ≡ held_by self.old h (access_in hart)) }
-        requires next { OfHart self.old h (λ hart. next ≡ arch_after hart) }
-        ensures state { self.new ≡ flat_after self.old (Actor.Hart h) (events.End next.pc) }
-        ensures hart { slice_get self.new.harts h ≡ option_map ended (slice_get self.old.harts h) }
+        requires held { OfHart self.old hart
+            (λ state. held ≡ held_by self.old hart (access_in state)) }
+        requires next { OfHart self.old hart (λ state. next ≡ arch_after state) }
+        ensures state { self.new ≡ flat_after self.old (Actor.Hart hart) (events.End next.pc) }
+        ensures hart { slice_get self.new.harts hart
+            ≡ option_map ended (slice_get self.old.harts hart) }
         ensures ordered { IsOrdered self.new }
         ensures numbers { page_numbers self.new.pages ≡ page_numbers self.old.pages }
     {
-        self.give_back(h, held);
-        self.finish(h, next);
+        self.give_back(hart, held);
+        self.finish(hart, next);
     }
 
     /// The change of a Sync by this hart, on a machine of one. `met` is what the generations have met with
     /// the page that this one meets now, as `met_with` makes it.
-    pub fn sync(&mut self, h: u8, met: Vec<(u32, u32)>)
+    pub fn sync(&mut self, hart: u8, met: Vec<(u32, u32)>)
         requires alone { length self.old.harts ≡ 1 }
-        requires there { h < length self.old.harts }
+        requires there { hart < length self.old.harts }
         requires ordered { IsOrdered self.old }
         requires more { HasOneMore self.old.met met.items }
         requires rising { IsRising (map met_key met.items) }
-        ensures state { (generation page : ℕ) → met.items ≡ with_met self.old.met generation page → self.new ≡ flat_after self.old (Actor.Hart h) (events.Sync generation page) }
+        ensures state { (generation page : ℕ) → met.items ≡ with_met self.old.met generation page
+            → self.new ≡ flat_after self.old (Actor.Hart hart) (events.Sync generation page) }
         ensures harts { self.new.harts ≡ self.old.harts }
         ensures ordered { IsOrdered self.new }
         ensures pages { self.new.pages ≡ self.old.pages }
     {
-        self.leave(h);
+        self.leave(hart);
         self.set_met(met);
     }
 
@@ -358,45 +385,49 @@ impl Flat {
     }
 
     /// The change of an Exit by this hart.
-    pub fn exit(&mut self, h: u8, code: u64)
-        requires { h < length self.old.harts }
-        ensures state { self.new ≡ flat_after self.old (Actor.Hart h) (events.Exit code) }
-        ensures hart { slice_get self.new.harts h ≡ option_map (exited_with code) (slice_get self.old.harts h) }
+    pub fn exit(&mut self, hart: u8, code: u64)
+        requires { hart < length self.old.harts }
+        ensures state { self.new ≡ flat_after self.old (Actor.Hart hart) (events.Exit code) }
+        ensures hart { slice_get self.new.harts hart
+            ≡ option_map (exited_with code) (slice_get self.old.harts hart) }
     {
-        self.leave(h);
-        let hart = &mut self.harts[h as usize];
-        hart.exit(code);
+        self.leave(hart);
+        let state = &mut self.harts[hart as usize];
+        state.exit(code);
     }
 
     /// The change of a Trap of this hart.
-    pub fn trap(&mut self, h: u8, cause: u8, value: u64)
-        requires { h < length self.old.harts }
-        ensures state { self.new ≡ flat_after self.old (Actor.Hart h) (events.Trap cause value) }
-        ensures hart { slice_get self.new.harts h ≡ option_map (trapped_with cause value) (slice_get self.old.harts h) }
+    pub fn trap(&mut self, hart: u8, cause: u8, value: u64)
+        requires { hart < length self.old.harts }
+        ensures state { self.new ≡ flat_after self.old (Actor.Hart hart) (events.Trap cause value) }
+        ensures hart { slice_get self.new.harts hart
+            ≡ option_map (trapped_with cause value) (slice_get self.old.harts hart) }
     {
-        self.leave(h);
-        let hart = &mut self.harts[h as usize];
-        hart.trap(cause, value);
+        self.leave(hart);
+        let state = &mut self.harts[hart as usize];
+        state.trap(cause, value);
     }
 
     /// The change of an Out by this hart.
-    pub fn out(&mut self, h: u8, byte: u8)
-        requires { h < length self.old.harts }
-        ensures state { self.new ≡ flat_after self.old (Actor.Hart h) (events.Out byte) }
-        ensures hart { slice_get self.new.harts h ≡ option_map (answered 0) (slice_get self.old.harts h) }
+    pub fn out(&mut self, hart: u8, byte: u8)
+        requires { hart < length self.old.harts }
+        ensures state { self.new ≡ flat_after self.old (Actor.Hart hart) (events.Out byte) }
+        ensures hart { slice_get self.new.harts hart
+            ≡ option_map (answered 0) (slice_get self.old.harts hart) }
     {
-        let hart = &mut self.harts[h as usize];
-        hart.answer(0);
+        let state = &mut self.harts[hart as usize];
+        state.answer(0);
     }
 
     /// The change of a Refused of a call of this hart.
-    pub fn refuse(&mut self, h: u8, reason: Refusal)
-        requires { h < length self.old.harts }
-        ensures state { self.new ≡ flat_after self.old (Actor.Hart h) (events.Refused reason) }
-        ensures hart { slice_get self.new.harts h ≡ option_map (answered (refused_answer reason)) (slice_get self.old.harts h) }
+    pub fn refuse(&mut self, hart: u8, reason: Refusal)
+        requires { hart < length self.old.harts }
+        ensures state { self.new ≡ flat_after self.old (Actor.Hart hart) (events.Refused reason) }
+        ensures hart { slice_get self.new.harts hart
+            ≡ option_map (answered (refused_answer reason)) (slice_get self.old.harts hart) }
     {
         let answer = answer_of(reason);
-        let hart = &mut self.harts[h as usize];
-        hart.answer(answer);
+        let state = &mut self.harts[hart as usize];
+        state.answer(answer);
     }
 }

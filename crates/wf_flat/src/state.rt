@@ -45,7 +45,16 @@ impl Model for FlatPage {
 
     ghost Value = { PageState };
 
-    ghost view = { λ p. record { number = p.number; write = p.write; stage = p.stage; holder = p.holder; words = p.words.items; writes = p.writes; birth = p.birth } };
+    ghost view = { λ p.
+        record {
+          number = p.number;
+          write = p.write;
+          stage = p.stage;
+          holder = p.holder;
+          words = p.words.items;
+          writes = p.writes;
+          birth = p.birth;
+        } };
 
     ghost invariant = { λ p. IsPage p.number p.words.items };
 }
@@ -64,11 +73,21 @@ pub struct Gen {
 }
 
 impl Model for Gen {
-    ghost use Rattle.wf_flat.specs.State.{GenState, IsGen};
+    ghost use Rattle.wf_flat.specs.Ordered.{IsGen};
+    ghost use Rattle.wf_flat.specs.State.{GenState};
 
     ghost Value = { GenState };
 
-    ghost view = { λ g. record { number = g.number; parent = g.parent; text = g.text.items; jumps = g.jumps.items; patches = g.patches; reach = g.reach.items; live = g.live } };
+    ghost view = { λ g.
+        record {
+          number = g.number;
+          parent = g.parent;
+          text = g.text.items;
+          jumps = g.jumps.items;
+          patches = g.patches;
+          reach = g.reach.items;
+          live = g.live;
+        } };
 
     ghost invariant = { λ g. IsGen g.text.items g.reach.items };
 }
@@ -101,7 +120,17 @@ impl Model for FlatHart {
 
     ghost Value = { HartState };
 
-    ghost view = { λ h. record { generation = h.generation; arch = h.arch; fetched = h.fetched; looked = h.looked; put = h.put; moved = h.moved.items; reservation = h.reservation; life = h.life } };
+    ghost view = { λ h.
+        record {
+          generation = h.generation;
+          arch = h.arch;
+          fetched = h.fetched;
+          looked = h.looked;
+          put = h.put;
+          moved = h.moved.items;
+          reservation = h.reservation;
+          life = h.life;
+        } };
 }
 
 /// The whole machine. Data pages stand by rising number, and a generation at the place of its number.
@@ -124,5 +153,15 @@ impl Model for Flat {
 
     ghost Value = { FlatState };
 
-    ghost view = { λ f. record { pages = f.pages.items; gens = f.gens.items; harts = f.harts.items; met = f.met.items; inside = f.inside; births = f.births; worn = f.worn; limits = f.limits } };
+    ghost view = { λ f.
+        record {
+          pages = f.pages.items;
+          gens = f.gens.items;
+          harts = f.harts.items;
+          met = f.met.items;
+          inside = f.inside;
+          births = f.births;
+          worn = f.worn;
+          limits = f.limits;
+        } };
 }

@@ -1,6 +1,6 @@
 -- A hart that is undisturbed has at most one next event.
 use Rattle.std.proofs.Common.{◌≡◌, ◌≢◌, inl, inr, ℕ, List, [], ◌∷◌, Option, Some, None, Bool, true, false, not, ◌&&◌, ◌||◌, ◌==◌, ◌%◌, ◌*◌, ◌^◌, refl, sym, subst, ap, ◌∙◌}
-use Rattle.std.specs.Prelude.{IsSomeAnd, MatchBool, is_some, nat_lt, slice_get, option_and_then}
+use Rattle.std.specs.Prelude.{MatchBool, is_some, nat_lt, slice_get, option_and_then}
 use Rattle.std.specs.List.{AllByRecursion}
 use Rattle.std.specs.Option.{IfSome, option_map}
 use Rattle.std.proofs.lemmas.Bool.{and_parts, or_cases}
@@ -10,7 +10,7 @@ use Rattle.rv_inst.specs.declared.want.Want.TheVariants.{Nothing, Call}
 use Rattle.rv_inst.specs.declared.want.Want.TheVariants as want
 use Rattle.rv_inst.specs.Decoding.{inst_of}
 use Rattle.rv_inst.specs.Meanings.{want_of}
-use Rattle.wf_outside.specs.Pages.{PageValue}
+use Rattle.wf_outside.specs.Pages.{PageValue, page_of}
 use Rattle.wf_flat.specs.declared.event.Actor.TheVariants.{Hart}
 use Rattle.wf_flat.specs.declared.event.Event.{Event}
 use Rattle.wf_flat.specs.declared.event.Event.TheVariants.{Fetch, Look, Take, Put, Swap, Miss, End, Enter, Idle}
@@ -20,20 +20,16 @@ use Rattle.wf_flat.specs.declared.state.Stage.{Stage}
 use Rattle.wf_flat.specs.declared.state.Stage.TheVariants.{Here, Going, Ending}
 use Rattle.wf_flat.specs.State.{FlatState, HartState, PageState}
 use Rattle.wf_flat.specs.Lists.{found_by}
-use Rattle.wf_flat.specs.Memory.{word_at, page_of, number_in}
-use Rattle.wf_flat.specs.Accesses.{Access, access_of, text_of, text_page, data_page, is_here, is_ending, is_reached, is_barred, is_free, holder_is, holds, holds_page, has_reserved, stands}
+use Rattle.wf_flat.specs.Memory.{word_at, number_in}
+use Rattle.wf_flat.specs.Accesses.{Access, access_of, generation_text, accessed_text, accessed_data, is_here, is_ending, is_reached, is_barred, is_free, holder_is, holds, holds_page, has_reserved, stands}
 use Rattle.wf_flat.specs.Steps.{MayAct, MayFetch, MayLook, MayTake, MayPut, MaySwap, MayMiss, MayEnd, MayEnter, want_in, access_in, ask_of, ask_by, ask_of_word, ask_of_want, ask_of_access, asks_access, is_lost, is_done, has_ended, may_read, ReadsData, Reads, takes_for, TakesData, put_of, swap_of, is_conditional, misses, misses_page, is_inside}
 use Rattle.wf_flat.specs.Calls.{Todo, Exactly, IsNext, todo_left}
 use Rattle.wf_laws.specs.Laws.{HartsAreDetermined, IsOwn, IsUndisturbed}
-
--- what is there, with what holds of it
-pub some_and : {A : Type 0} (o : Option A) (P : A → Type 0) → IsSomeAnd o P → (x : A) × (o ≡ Some x) × P x
-some_and None P h = absurd h
-some_and (Some x) P h = (x, refl, h)
+use Rattle.wf_flat.proofs.ListLemmas.{some_and}
 
 -- what a hart, which is this, may do outside
 abbrev pub May : FlatState → ℕ → HartState → Event → Type 0
-May s h hart (Fetch pc word) = (hart.life ≡ Running) × MayFetch (text_of s hart.generation) hart pc word
+May s h hart (Fetch pc word) = (hart.life ≡ Running) × MayFetch (generation_text s hart.generation) hart pc word
 May s h hart (End pc) = (hart.life ≡ Running) × MayEnd hart pc
 May s h hart (Look va width value) = (hart.life ≡ Running) × MayLook s h hart va width value
 May s h hart (Take page) = (hart.life ≡ Running) × MayTake s hart (access_in hart) page
@@ -72,7 +68,7 @@ pub not_done : (hart : HartState) → hart.fetched ≡ None → is_done hart (wa
 not_done hart e = rw e refl
 
 -- in no try, at a word of its text, it asks for nothing
-pub no_ask : (s : FlatState) (h : ℕ) (hart : HartState) (word : ℕ) → hart.fetched ≡ None → word_at (text_of s hart.generation) hart.arch.pc ≡ Some word → ask_of s h hart ≡ None
+pub no_ask : (s : FlatState) (h : ℕ) (hart : HartState) (word : ℕ) → hart.fetched ≡ None → word_at (generation_text s hart.generation) hart.arch.pc ≡ Some word → ask_of s h hart ≡ None
 no_ask s h hart word e r = rw (e, r) refl
 
 -- what is done asks for nothing
@@ -152,7 +148,7 @@ here_of Here g e = refl
 here_of Going g e = absurd (g refl)
 here_of Ending g e = absurd (cc)
 
-reached_open : (s : FlatState) (hart : HartState) (access : Access) (page : PageState) → hart.moved ≡ [] → text_page s hart access ≡ None → data_page s access ≡ Some page → page.stage ≢ Going → is_reached s hart access page ≡ true → is_barred s hart access ≡ false
+reached_open : (s : FlatState) (hart : HartState) (access : Access) (page : PageState) → hart.moved ≡ [] → accessed_text s hart access ≡ None → accessed_data s access ≡ Some page → page.stage ≢ Going → is_reached s hart access page ≡ true → is_barred s hart access ≡ false
 reached_open s hart access page moved none is stage reached =
     let here : is_here page.stage ≡ true = here_of page.stage stage (and_parts _ _ (and_parts _ _ reached).0).0 in
     rw (none, moved, is, here, reached) refl
@@ -185,8 +181,8 @@ pub record Taking (s : FlatState) (hart : HartState) (number : ℕ) : Type 0 whe
   pub is_access : access_in hart ≡ Some access
   pub is_number : number ≡ page_of access.va
   pub unlooked : hart.looked ≡ None
-  pub not_text : text_page s hart access ≡ None
-  pub is_page : data_page s access ≡ Some page
+  pub not_text : accessed_text s hart access ≡ None
+  pub is_page : accessed_data s access ≡ Some page
   pub takes : Takes s hart access page
 
 pub taking : (s : FlatState) (hart : HartState) (number : ℕ) → MayTake s hart (access_in hart) number → Taking s hart number
@@ -195,7 +191,7 @@ taking s hart number p = by_access (access_in hart) refl p
     by_access : (o : Option Access) → access_in hart ≡ o → MayTake s hart o number → Taking s hart number
     by_access None e p = absurd p
     by_access (Some access) e p =
-        let w = takes_page s hart access (data_page s access) p.3 in
+        let w = takes_page s hart access (accessed_data s access) p.3 in
         record { access = access; page = w.0; is_access = e; is_number = p.0; unlooked = p.1; not_text = p.2; is_page = w.1; takes = w.2 }
 
 -- the access of a miss
@@ -234,10 +230,10 @@ writes_of None = false
 writes_of (Some access) = access.write
 
 -- what may look, take or put asks for nothing
-look_asks : (s : FlatState) (h : ℕ) (hart : HartState) (access : Access) (value : ℕ) (o : Option PageValue) → (hart.moved ≡ []) × AllByRecursion (IsOwn h) s.pages → access.write ≡ false → text_page s hart access ≡ o → Reads s h hart access o value → asks_access s h hart access ≡ false
+look_asks : (s : FlatState) (h : ℕ) (hart : HartState) (access : Access) (value : ℕ) (o : Option PageValue) → (hart.moved ≡ []) × AllByRecursion (IsOwn h) s.pages → access.write ≡ false → accessed_text s hart access ≡ o → Reads s h hart access o value → asks_access s h hart access ≡ false
 look_asks s h hart access value (Some page) u write text p = unbarred s h hart access (rw (text, write) refl)
 look_asks s h hart access value None u write text p =
-    let w = reads_page s h hart access value (data_page s access) p in
+    let w = reads_page s h hart access value (accessed_data s access) p in
     elim (or_cases (is_free w.0 && is_reached s hart access w.0 && nat_lt w.0.writes s.limits.last_writes) (holder_is w.0.holder h) w.2) [
       | inl free ↦ unbarred s h hart access (reached_open s hart access w.0 u.0 text w.1 (found_all (IsOwn h) s.pages _ w.0 u.1 w.1).0 (and_parts _ _ (and_parts _ _ free).0).1)
       | inr holder ↦ held s h hart access (rw w.1 holder)
@@ -246,7 +242,7 @@ look_asks s h hart access value None u write text p =
 look_quiet : (s : FlatState) (h : ℕ) (hart : HartState) (va width value : ℕ) → IsUndisturbed s h hart → MayLook s h hart va width value → ask_of s h hart ≡ None
 look_quiet s h hart va width value u p =
     let access : Access = record { va = va; width = width; write = false } in
-    quiet_by s h hart hart.fetched access p.0 (look_asks s h hart access value (text_page s hart access) (in_try s h hart access u p.0) refl refl p.2)
+    quiet_by s h hart hart.fetched access p.0 (look_asks s h hart access value (accessed_text s hart access) (in_try s h hart access u p.0) refl refl p.2)
 
 take_quiet : (s : FlatState) (h : ℕ) (hart : HartState) (number : ℕ) → IsUndisturbed s h hart → MayTake s hart (access_in hart) number → ask_of s h hart ≡ None
 take_quiet s h hart number u p =
@@ -284,12 +280,12 @@ missed_page s hart access (Some page) p = let w = and_parts (is_reached s hart a
 
 miss_asks : (s : FlatState) (h : ℕ) (hart : HartState) (access : Access) → (hart.moved ≡ []) × AllByRecursion (IsOwn h) s.pages → misses s hart access ≡ true → asks_access s h hart access ≡ false
 miss_asks s h hart access u p =
-    elim (or_cases (is_lost (want_in hart) hart.reservation) (not (is_some (text_page s hart access)) && misses_page s hart access (data_page s access)) p) [
+    elim (or_cases (is_lost (want_in hart) hart.reservation) (not (is_some (accessed_text s hart access)) && misses_page s hart access (accessed_data s access)) p) [
       | inl is ↦ lost s h hart access is
       | inr other ↦ (
-          let w = and_parts (not (is_some (text_page s hart access))) (misses_page s hart access (data_page s access)) other in
-          let page = missed_page s hart access (data_page s access) w.1 in
-          unbarred s h hart access (reached_open s hart access page.0 u.0 (no_text_page (text_page s hart access) w.0) page.1 (found_all (IsOwn h) s.pages _ page.0 u.1 page.1).0 page.2))
+          let w = and_parts (not (is_some (accessed_text s hart access))) (misses_page s hart access (accessed_data s access)) other in
+          let page = missed_page s hart access (accessed_data s access) w.1 in
+          unbarred s h hart access (reached_open s hart access page.0 u.0 (no_text_page (accessed_text s hart access) w.0) page.1 (found_all (IsOwn h) s.pages _ page.0 u.1 page.1).0 page.2))
     ]
 
 miss_quiet : (s : FlatState) (h : ℕ) (hart : HartState) (va : ℕ) → IsUndisturbed s h hart → MayMiss s h hart (access_in hart) va → ask_of s h hart ≡ None
@@ -323,7 +319,7 @@ reads_data s h hart access one other None p q = absurd p
 reads_data s h hart access one other (Some page) p q = p.1 ∙ sym q.1
 
 reads_one : (s : FlatState) (h : ℕ) (hart : HartState) (access : Access) (one other : ℕ) (o : Option PageValue) → Reads s h hart access o one → Reads s h hart access o other → one ≡ other
-reads_one s h hart access one other None p q = reads_data s h hart access one other (data_page s access) p q
+reads_one s h hart access one other None p q = reads_data s h hart access one other (accessed_data s access) p q
 reads_one s h hart access one other (Some page) p q = p ∙ sym q
 
 -- two events of one kind are one
@@ -334,7 +330,7 @@ one_look s h hart va width value va' width' value' p q =
     let widths : width' ≡ width = ap width_of same in
     let there : MayLook s h hart va width value' = subst (λ (a : ℕ). MayLook s h hart a width value') vas (subst (λ (n : ℕ). MayLook s h hart va' n value') widths q) in
     let access : Access = record { va = va; width = width; write = false } in
-    let values : value ≡ value' = reads_one s h hart access value value' (text_page s hart access) p.2 there.2 in
+    let values : value ≡ value' = reads_one s h hart access value value' (accessed_text s hart access) p.2 there.2 in
     cc
 
 one_put : (s : FlatState) (h : ℕ) (hart : HartState) (va width value va' width' value' : ℕ) → MayPut s h hart va width value → MayPut s h hart va' width' value' → Put va width value ≡ Put va' width' value'
@@ -357,8 +353,8 @@ one_swap s h hart va width old new va' width' old' new' p q =
     let widths : width' ≡ width = ap width_of same in
     let there : MaySwap s h hart va width old' new' = subst (λ (a : ℕ). MaySwap s h hart a width old' new') vas (subst (λ (n : ℕ). MaySwap s h hart va' n old' new') widths q) in
     let access : Access = record { va = va; width = width; write = true } in
-    let one = some_and (data_page s access) _ p.4 in
-    let other = some_and (data_page s access) _ there.4 in
+    let one = some_and (accessed_data s access) _ p.4 in
+    let other = some_and (accessed_data s access) _ there.4 in
     let page : other.0 ≡ one.0 = cc in
     let olds : old ≡ old' = one.2 ∙ sym (subst (λ (page : PageState). old' ≡ number_in page.words (va % 4096) width) page other.2) in
     let swapped : swap_of (want_in hart) old ≡ Some new' = subst (λ (n : ℕ). swap_of (want_in hart) n ≡ Some new') (sym olds) there.5 in
@@ -394,9 +390,9 @@ look_take : (s : FlatState) (h : ℕ) (hart : HartState) (va width value page : 
 look_take s h hart va width value page p q =
     let access : Access = record { va = va; width = width; write = false } in
     let take : MayTake s hart (Some access) page = subst (λ (o : Option Access). MayTake s hart o page) p.0 q in
-    let t = takes_page s hart access (data_page s access) take.3 in
-    let reads : ReadsData s h hart access (data_page s access) value = subst (λ (o : Option PageValue). Reads s h hart access o value) take.2 p.2 in
-    let r = reads_page s h hart access value (data_page s access) reads in
+    let t = takes_page s hart access (accessed_data s access) take.3 in
+    let reads : ReadsData s h hart access (accessed_data s access) value = subst (λ (o : Option PageValue). Reads s h hart access o value) take.2 p.2 in
+    let r = reads_page s h hart access value (accessed_data s access) reads in
     let same : r.0 ≡ t.0 = cc in
     read_take s h hart access t.0 p.0 refl (subst (λ (page : PageState). may_read s h hart access page ≡ true) same r.2) t.2
 
@@ -406,7 +402,7 @@ look_put s h hart va width value va' width' value' p q = let writes : false ≡ 
 take_held : (s : FlatState) (h : ℕ) (hart : HartState) (access : Access) (page : ℕ) → access_in hart ≡ Some access → holds s h access ≡ true → MayTake s hart (access_in hart) page → ⊥
 take_held s h hart access page e is p =
     let take : MayTake s hart (Some access) page = subst (λ (o : Option Access). MayTake s hart o page) e p in
-    let t = takes_page s hart access (data_page s access) take.3 in
+    let t = takes_page s hart access (accessed_data s access) take.3 in
     let holder : holds_page h (Some t.0) ≡ true = subst (λ (o : Option PageState). holds_page h o ≡ true) t.1 is in
     let unheld = free_unheld h t.0.holder t.2.0 in
     cc
@@ -466,12 +462,12 @@ take_miss : (s : FlatState) (h : ℕ) (hart : HartState) (page va : ℕ) → May
 take_miss s h hart page va p q =
     let m = missing s h hart va q in
     let take : MayTake s hart (Some m.access) page = subst (λ (o : Option Access). MayTake s hart o page) m.is_access p in
-    let t = takes_page s hart m.access (data_page s m.access) take.3 in
+    let t = takes_page s hart m.access (accessed_data s m.access) take.3 in
     let stand : stands hart.reservation m.access t.0 ≡ true = conditional_stands (want_in hart) s hart m.access t.0 m.conditional t.2.2 in
-    elim (or_cases (is_lost (want_in hart) hart.reservation) (not (is_some (text_page s hart m.access)) && misses_page s hart m.access (data_page s m.access)) m.misses) [
+    elim (or_cases (is_lost (want_in hart) hart.reservation) (not (is_some (accessed_text s hart m.access)) && misses_page s hart m.access (accessed_data s m.access)) m.misses) [
       | inl is ↦ reserved_kept (want_in hart) hart.reservation m.access m.is_access (stands_reserved hart.reservation m.access t.0 stand) is
       | inr other ↦ (
-          let page = missed_page s hart m.access (data_page s m.access) (and_parts (not (is_some (text_page s hart m.access))) _ other).1 in
+          let page = missed_page s hart m.access (accessed_data s m.access) (and_parts (not (is_some (accessed_text s hart m.access))) _ other).1 in
           let same : page.0 ≡ t.0 = cc in
           let falls : not (stands hart.reservation m.access t.0) ≡ true = subst (λ (page : PageState). not (stands hart.reservation m.access page) ≡ true) same page.3 in
           let no : not (stands hart.reservation m.access t.0) ≡ false = rw stand refl in
@@ -485,17 +481,17 @@ held_miss s h hart access va e is q =
     let no : holds s h access ≡ false = miss.3 in
     cc
 
-one_fetch : (s : FlatState) (hart : HartState) (pc word pc' word' : ℕ) → MayFetch (text_of s hart.generation) hart pc word → MayFetch (text_of s hart.generation) hart pc' word' → Fetch pc word ≡ Fetch pc' word'
+one_fetch : (s : FlatState) (hart : HartState) (pc word pc' word' : ℕ) → MayFetch (generation_text s hart.generation) hart pc word → MayFetch (generation_text s hart.generation) hart pc' word' → Fetch pc word ≡ Fetch pc' word'
 one_fetch s hart pc word pc' word' p q =
-    let text : List PageValue = text_of s hart.generation in
+    let text : List PageValue = generation_text s hart.generation in
     let one : word_at text hart.arch.pc ≡ Some word = subst (λ (a : ℕ). word_at text a ≡ Some word) p.1 p.2 in
     let other : word_at text hart.arch.pc ≡ Some word' = subst (λ (a : ℕ). word_at text a ≡ Some word') q.1 q.2 in
     let words : word ≡ word' = cc in
     let pcs : pc ≡ pc' = p.1 ∙ sym q.1 in
     cc
 
-fetch_quiet : (s : FlatState) (h : ℕ) (hart : HartState) (pc word : ℕ) → MayFetch (text_of s hart.generation) hart pc word → ask_of s h hart ≡ None
-fetch_quiet s h hart pc word p = no_ask s h hart word p.0 (subst (λ (a : ℕ). word_at (text_of s hart.generation) a ≡ Some word) p.1 p.2)
+fetch_quiet : (s : FlatState) (h : ℕ) (hart : HartState) (pc word : ℕ) → MayFetch (generation_text s hart.generation) hart pc word → ask_of s h hart ≡ None
+fetch_quiet s h hart pc word p = no_ask s h hart word p.0 (subst (λ (a : ℕ). word_at (generation_text s hart.generation) a ≡ Some word) p.1 p.2)
 
 -- a hart in no try does nothing else of a try
 pub fetch_access : (hart : HartState) (access : Access) → hart.fetched ≡ None → access_in hart ≡ Some access → ⊥

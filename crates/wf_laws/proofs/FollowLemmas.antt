@@ -13,11 +13,7 @@ use Rattle.wf_flat.specs.Legal.{Moment, IsLegal, after, end_of, at_rest}
 use Rattle.wf_laws.specs.Laws.{ConditionalsFollow, HasReserved, HasNoReserve, IsConditional, IsReserving}
 use Rattle.wf_laws.proofs.HolderLemmas.{entry_of}
 use Rattle.wf_laws.proofs.ReservationLemmas.{IsNoReserve, between, unreserved_end}
-
--- the moment after entries and more entries
-end_of-append : (m : Moment) (es fs : List Entry) → end_of m (es ++ fs) ≡ end_of (end_of m es) fs
-end_of-append m [] fs = refl
-end_of-append m (entry ∷ es) fs = end_of-append (after m entry.actor entry.event) es fs
+use Rattle.wf_flat.proofs.JournalLemmas.{end_of-append}
 
 -- a hart is in a try of a load-reserved, or is not
 reserving_or_not : (o : Option HartState) → (IsSomeAnd o (λ hart. reserves (want_in hart) ≡ true) → ⊥) ⊎ IsSomeAnd o (λ hart. reserves (want_in hart) ≡ true)

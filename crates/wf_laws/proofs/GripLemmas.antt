@@ -10,7 +10,8 @@ use Rattle.wf_flat.specs.declared.event.Event.{Event}
 use Rattle.wf_flat.specs.declared.event.Event.TheVariants.{Fetch, Look, Take, Put, Swap, Miss, End, Again, Enter, Sync, Trap, Exit, Out, Idle, Refused}
 use Rattle.wf_flat.specs.State.{FlatState, HartState, PageState}
 use Rattle.wf_flat.specs.Lists.{changed_at, others_changed, with_number}
-use Rattle.wf_flat.specs.Memory.{page_of, data_in}
+use Rattle.wf_outside.specs.Pages.{page_of}
+use Rattle.wf_flat.specs.Memory.{data_in}
 use Rattle.wf_flat.specs.Accesses.{Access, holder_is, holds, holds_page}
 use Rattle.wf_flat.specs.Refusals.{refused_answer}
 use Rattle.wf_flat.specs.Steps.{MayAct, access_in, ask_of, flat_after, is_inside, without, change_page, note_page, noted, noted_in, fetched_with, looked_with, written_by, swapped_by, missed, ended, tried, exited_with, trapped_with, answered, taken_by, put_with, given_back, give_back, give_back_by, give_back_of}
@@ -19,8 +20,10 @@ use Rattle.wf_flat.specs.Legal.{Moment, Allows}
 use Rattle.wf_flat.proofs.HartLemmas.{changed_get}
 use Rattle.wf_laws.specs.Laws.{HoldsNone}
 use Rattle.wf_laws.proofs.DeterminedLemmas.{hart_of, taking, fetch_access, found_all, quiet_by, held}
-use Rattle.wf_laws.proofs.StayLemmas.{Stays, acts_outside, is_outside, changed_next}
-use Rattle.wf_laws.proofs.PageLemmas.{data_number, data_changed, data_there, at_number}
+use Rattle.wf_flat.proofs.ListLemmas.{changed_next}
+use Rattle.wf_laws.proofs.StayLemmas.{Stays, acts_outside, is_outside}
+use Rattle.wf_flat.proofs.FoundLemmas.{data_number}
+use Rattle.wf_laws.proofs.PageLemmas.{data_changed, data_there, at_number}
 use Rattle.wf_laws.proofs.HolderLemmas.{IsHeld, held_there}
 
 -- a hart without the pages that moved, which other harts change

@@ -4,21 +4,22 @@ use Rattle.std.specs.Prelude.{nat_lt, slice_get, if◌then◌else◌}
 use Rattle.std.specs.Option.{option_map}
 use Rattle.std.proofs.lemmas.Bool.{and_parts, or_cases}
 use Rattle.std.proofs.lemmas.Bool.Decides.{nat_tests}
-use Rattle.wf_outside.specs.Pages.{PageValue}
+use Rattle.wf_outside.specs.Pages.{PageValue, page_of}
 use Rattle.wf_flat.specs.declared.event.Actor.{Actor}
 use Rattle.wf_flat.specs.declared.event.Actor.TheVariants.{Hart, Kernel}
 use Rattle.wf_flat.specs.declared.event.Event.{Event}
 use Rattle.wf_flat.specs.declared.event.Event.TheVariants.{Look, Take, Put, Swap, End, Enter}
 use Rattle.wf_flat.specs.declared.event.Entry.{Entry}
 use Rattle.wf_flat.specs.State.{FlatState, HartState, PageState}
-use Rattle.wf_flat.specs.Memory.{page_of, page_in, data_in}
-use Rattle.wf_flat.specs.Accesses.{Access, text_of, text_page, data_page, is_free, is_reached, holder_is, holds, holds_page}
+use Rattle.wf_flat.specs.Memory.{page_in, data_in}
+use Rattle.wf_flat.specs.Accesses.{Access, generation_text, accessed_text, accessed_data, is_free, is_reached, holder_is, holds, holds_page}
 use Rattle.wf_flat.specs.Steps.{MayAct, access_in, Reads, flat_after, change_page, note_page, taken_by, put_with, given_back, give_back_by, give_back_of}
 use Rattle.wf_flat.specs.Legal.{Moment, Allows, IsLegal, after, at_rest}
 use Rattle.wf_laws.specs.Laws.{HoldersAreAlone, Touches, HasNoEnd}
 use Rattle.wf_laws.proofs.DeterminedLemmas.{hart_of, taking, reads_page, free_unheld}
 use Rattle.wf_laws.proofs.StayLemmas.{Stays, stays, at_start, acts_outside, text_now}
-use Rattle.wf_laws.proofs.PageLemmas.{data_number, data_changed, data_there, at_number}
+use Rattle.wf_flat.proofs.FoundLemmas.{data_number}
+use Rattle.wf_laws.proofs.PageLemmas.{data_changed, data_there, at_number}
 
 -- the hart holds the page of the number
 abbrev pub IsHeld : FlatState → ℕ → ℕ → Type 0
@@ -120,10 +121,10 @@ held_taken m h number p =
 -- who reads a page of data that is held holds it
 looks_held : (s : FlatState) (h other : ℕ) (hart : HartState) (access : Access) (value : ℕ) → Reads s other hart access None value → IsHeld s h (page_of access.va) → other ≡ h
 looks_held s h other hart access value p e =
-    let r = reads_page s other hart access value (data_page s access) p in
+    let r = reads_page s other hart access value (accessed_data s access) p in
     elim (or_cases (is_free r.0 && is_reached s hart access r.0 && nat_lt r.0.writes s.limits.last_writes) (holder_is r.0.holder other) r.2) [
-      | inl free ↦ absurd (free_page (data_page s access) h r.0 r.1 (and_parts _ _ (and_parts _ _ free).0).0 e)
-      | inr holder ↦ one_page (data_page s access) h other e (subst (λ (o : Option PageState). holds_page other o ≡ true) (sym r.1) holder)
+      | inl free ↦ absurd (free_page (accessed_data s access) h r.0 r.1 (and_parts _ _ (and_parts _ _ free).0).0 e)
+      | inr holder ↦ one_page (accessed_data s access) h other e (subst (λ (o : Option PageState). holds_page other o ≡ true) (sym r.1) holder)
     ]
 
 -- who touches a page that is held holds it
@@ -134,8 +135,8 @@ at_touch s m h other page (Take taken) k a touch e =
 at_touch s m h other page (Look va width value) k a touch e =
     let access : Access = record { va = va; width = width; write = false } in
     let w = hart_of m.flat other (Look va width value) (acts_outside m other (Look va width value) refl k.quiet a) in
-    let no_text : page_in (text_of m.flat w.0.generation) page ≡ None = text_now s m other w.0 (λ (text : List PageValue). page_in text page ≡ None) k w.1 touch.1 in
-    let not_text : text_page m.flat w.0 access ≡ None = subst (λ (n : ℕ). page_in (text_of m.flat w.0.generation) n ≡ None) touch.0 no_text in
+    let no_text : page_in (generation_text m.flat w.0.generation) page ≡ None = text_now s m other w.0 (λ (text : List PageValue). page_in text page ≡ None) k w.1 touch.1 in
+    let not_text : accessed_text m.flat w.0 access ≡ None = subst (λ (n : ℕ). page_in (generation_text m.flat w.0.generation) n ≡ None) touch.0 no_text in
     looks_held m.flat h other w.0 access value (subst (λ (o : Option PageValue). Reads m.flat other w.0 access o value) not_text w.2.1.2) (subst (IsHeld m.flat h) touch.0 e)
 at_touch s m h other page (Put va width value) k a touch e =
     let w = hart_of m.flat other (Put va width value) (acts_outside m other (Put va width value) refl k.quiet a) in

@@ -5,15 +5,15 @@ use Rattle.std.specs.Option.{option_map, IfSome}
 use Rattle.std.proofs.lemmas.Bool.{and_parts, cases_order}
 use Rattle.std.proofs.lemmas.Bool.Decides.{nat_tests}
 use Rattle.std.proofs.lemmas.List.{length-set}
-use Rattle.wf_outside.specs.Pages.{PageValue}
+use Rattle.wf_outside.specs.Pages.{PageValue, page_of}
 use Rattle.wf_flat.specs.declared.event.Actor.{Actor}
 use Rattle.wf_flat.specs.declared.event.Actor.TheVariants.{Hart, Kernel}
 use Rattle.wf_flat.specs.declared.event.Event.{Event}
 use Rattle.wf_flat.specs.declared.event.Event.TheVariants.{Look, Take, Put, Swap, End, Enter}
 use Rattle.wf_flat.specs.declared.event.Entry.{Entry}
 use Rattle.wf_flat.specs.State.{FlatState, HartState, PageState}
-use Rattle.wf_flat.specs.Memory.{page_of, page_in, data_in, number_in, words_with}
-use Rattle.wf_flat.specs.Accesses.{Access, text_page, data_page, holds, holds_page}
+use Rattle.wf_flat.specs.Memory.{page_in, data_in, number_in, words_with}
+use Rattle.wf_flat.specs.Accesses.{Access, accessed_text, accessed_data, holds, holds_page}
 use Rattle.wf_flat.specs.Steps.{MayAct, access_in, Reads, ReadsData, flat_after, change_page, note_page, taken_by, put_with, given_back, give_back_by, give_back_of}
 use Rattle.wf_flat.specs.Legal.{Moment, Allows, IsLegal, after, at_rest}
 use Rattle.wf_laws.specs.Laws.{LooksAreLatest, SwapsAreLatest, HasWholePages, IsNoText, byte_of, data_byte, byte_after, latest_byte}
@@ -208,9 +208,9 @@ at_look : HaveRows → (s : FlatState) (m : Moment) (h va width value i : ℕ) �
 at_look rows s m h va width value i k a none below =
     let access : Access = record { va = va; width = width; write = false } in
     let w = hart_of m.flat h (Look va width value) (acts_outside m h (Look va width value) refl k.quiet a) in
-    let not_text : text_page m.flat w.0 access ≡ None = text_now s m h w.0 (λ (text : List PageValue). page_in text (page_of va) ≡ None) k w.1 none in
-    let reads : ReadsData m.flat h w.0 access (data_page m.flat access) value = subst (λ (o : Option PageValue). Reads m.flat h w.0 access o value) not_text w.2.1.2 in
-    read_data m.flat va width value i (data_page m.flat access) refl (reads_in m.flat h w.0 access value (data_page m.flat access) reads) (access_fits rows w.0 access w.2.1.0) below
+    let not_text : accessed_text m.flat w.0 access ≡ None = text_now s m h w.0 (λ (text : List PageValue). page_in text (page_of va) ≡ None) k w.1 none in
+    let reads : ReadsData m.flat h w.0 access (accessed_data m.flat access) value = subst (λ (o : Option PageValue). Reads m.flat h w.0 access o value) not_text w.2.1.2 in
+    read_data m.flat va width value i (accessed_data m.flat access) refl (reads_in m.flat h w.0 access value (accessed_data m.flat access) reads) (access_fits rows w.0 access w.2.1.0) below
 
 at_swap : HaveRows → (s : FlatState) (m : Moment) (h va width old new i : ℕ) → Stays s m → Allows m (Hart h) (Swap va width old new) → i < width → byte_of old i ≡ data_byte m.flat (va + i)
 at_swap rows s m h va width old new i k a below =
@@ -226,14 +226,14 @@ data_low va width value None p = absurd p
 data_low va width value (Some page) p = number_low page.words (va % 4096) width value p
 
 read_low : (s : FlatState) (h : ℕ) (hart : HartState) (access : Access) (value : ℕ) (o : Option PageValue) → Reads s h hart access o value → value < 2 ^ (8 * access.width)
-read_low s h hart access value None p = data_low access.va access.width value (data_page s access) (reads_in s h hart access value (data_page s access) p)
+read_low s h hart access value None p = data_low access.va access.width value (accessed_data s access) (reads_in s h hart access value (accessed_data s access) p)
 read_low s h hart access value (Some page) p = number_low page.words (access.va % 4096) access.width value p
 
 look_low : (s : FlatState) (m : Moment) (h va width value : ℕ) → Stays s m → Allows m (Hart h) (Look va width value) → value < 2 ^ (8 * width)
 look_low s m h va width value k a =
     let access : Access = record { va = va; width = width; write = false } in
     let w = hart_of m.flat h (Look va width value) (acts_outside m h (Look va width value) refl k.quiet a) in
-    read_low m.flat h w.0 access value (text_page m.flat w.0 access) w.2.1.2
+    read_low m.flat h w.0 access value (accessed_text m.flat w.0 access) w.2.1.2
 
 swap_low : (s : FlatState) (m : Moment) (h va width old new : ℕ) → Stays s m → Allows m (Hart h) (Swap va width old new) → old < 2 ^ (8 * width)
 swap_low s m h va width old new k a =

@@ -1,25 +1,11 @@
 -- Pages of data, of which some change.
-use Rattle.std.proofs.Common.{◌≡◌, ◌≢◌, ℕ, List, [], ◌∷◌, Option, Some, None, Bool, true, false, map, ◌==◌, refl, sym, subst, ap, ◌∙◌, arith}
+use Rattle.std.proofs.Common.{◌≡◌, ◌≢◌, ℕ, List, [], ◌∷◌, Option, Some, None, Bool, true, false, map, ◌==◌, refl, ap, ◌∙◌, arith}
 use Rattle.std.specs.Prelude.{if◌then◌else◌}
 use Rattle.std.specs.Option.{option_map}
 use Rattle.std.proofs.lemmas.Bool.Decides.{nat_tests}
 use Rattle.wf_flat.specs.State.{PageState}
 use Rattle.wf_flat.specs.Memory.{data_in}
-
--- the page of a number has that number
-number_by : (p : PageState) (pages : List PageState) (n : ℕ) (page : PageState) (b : Bool) → (p.number == n) ≡ b → (data_in pages n ≡ Some page → page.number ≡ n) → data_in (p ∷ pages) n ≡ Some page → page.number ≡ n
-number_by p pages n page true t rest e =
-    let f : data_in (p ∷ pages) n ≡ Some p = rw t refl in
-    let same : p ≡ page = cc in
-    let numbers : p.number ≡ n = grind (arith, nat_tests) in
-    subst (λ (x : PageState). x.number ≡ n) same numbers
-number_by p pages n page false t rest e =
-    let f : data_in (p ∷ pages) n ≡ data_in pages n = rw t refl in
-    rest (sym f ∙ e)
-
-pub data_number : (pages : List PageState) (n : ℕ) (page : PageState) → data_in pages n ≡ Some page → page.number ≡ n
-data_number [] n page e = absurd (cc)
-data_number (p ∷ pages) n page e = number_by p pages n page (p.number == n) refl (data_number pages n page) e
+use Rattle.wf_flat.proofs.FoundLemmas.{data_number}
 
 -- where all pages change and keep their numbers
 map_by : (g : PageState → PageState) (p : PageState) (pages : List PageState) (n : ℕ) (b : Bool) → (p.number == n) ≡ b → (g p).number ≡ p.number → data_in (map g pages) n ≡ option_map g (data_in pages n)

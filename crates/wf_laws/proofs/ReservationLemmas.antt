@@ -14,15 +14,17 @@ use Rattle.wf_flat.specs.declared.event.Entry.{Entry}
 use Rattle.wf_flat.specs.declared.state.Reservation.{Reservation}
 use Rattle.wf_flat.specs.State.{FlatState, HartState, PageState}
 use Rattle.wf_flat.specs.Lists.{changed_at}
-use Rattle.wf_flat.specs.Memory.{page_of, data_in}
-use Rattle.wf_flat.specs.Accesses.{Access, data_page, is_free, holds, has_reserved, stands}
+use Rattle.wf_outside.specs.Pages.{page_of}
+use Rattle.wf_flat.specs.Memory.{data_in}
+use Rattle.wf_flat.specs.Accesses.{Access, accessed_data, is_free, holds, has_reserved, stands}
 use Rattle.wf_flat.specs.Refusals.{refused_answer}
 use Rattle.wf_flat.specs.Steps.{MayAct, want_in, access_in, flat_after, change_page, note_page, fetched_with, looked_with, written_by, swapped_by, missed, ended, tried, exited_with, trapped_with, answered, taken_by, put_with, given_back, give_back, give_back_by, give_back_of, reserves, reservation_of, is_conditional}
 use Rattle.wf_flat.specs.Legal.{Moment, Allows, IsLegal, after, end_of, at_rest}
 use Rattle.wf_flat.proofs.HartLemmas.{get-changed_at}
 use Rattle.wf_laws.specs.Laws.{ConditionalsAreAlone, HoldsNone, HasNoReservation, HasNoReserve, IsConditional, IsReserving, Writes}
-use Rattle.wf_laws.proofs.DeterminedLemmas.{some_and, hart_of, taking, missing, fetch_access, conditional_stands, stands_reserved}
-use Rattle.wf_laws.proofs.StayLemmas.{Stays, stays, at_start, acts_outside, kernel_acts, and_some}
+use Rattle.wf_flat.proofs.ListLemmas.{some_and, and_some}
+use Rattle.wf_laws.proofs.DeterminedLemmas.{hart_of, taking, missing, fetch_access, conditional_stands, stands_reserved}
+use Rattle.wf_laws.proofs.StayLemmas.{Stays, stays, at_start, acts_outside, kernel_acts}
 use Rattle.wf_laws.proofs.PageLemmas.{data_changed, data_there, at_number}
 use Rattle.wf_laws.proofs.HolderLemmas.{IsHeld, entry_of, held_after, one_page, free_page}
 use Rattle.wf_laws.proofs.GripLemmas.{bare, bare_at, bare_other, bare_own, same_bare, taken_bare, met_bare, given, held_before, Grip, IsGripped, grip_access, grip_quiet, end_pages, acts, gripped_after, gripped_start, unheld}
@@ -198,7 +200,7 @@ record Since (s : FlatState) (h : ℕ) (o : Option Reservation) (X : Access → 
 
 -- where such an access may take its page, this holds of it
 abbrev Gives : FlatState → Option Reservation → (Access → Type 0) → Type 0
-Gives s o X = (r : Option Reservation) (a : Access) (page : PageState) → (r ≡ None) ⊎ (r ≡ o) → data_page s a ≡ Some page → is_free page ≡ true → stands r a page ≡ true → X a
+Gives s o X = (r : Option Reservation) (a : Access) (page : PageState) → (r ≡ None) ⊎ (r ≡ o) → accessed_data s a ≡ Some page → is_free page ≡ true → stands r a page ≡ true → X a
 
 -- no Look of the hart that is that of a load-reserved
 abbrev pub IsNoReserve : Moment → ℕ → Actor → Event → Type 0

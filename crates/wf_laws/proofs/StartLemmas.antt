@@ -1,13 +1,14 @@
 -- The machine at its start: nobody holds a page, each page of data is whole, and no hart has a reservation.
-use Rattle.std.proofs.Common.{◌≡◌, ◌++◌, ◌+◌, ℕ, zero, suc, List, [], ◌∷◌, None, Bool, true, false, length, map, replicate, refl}
-use Rattle.std.specs.Prelude.{if◌then◌else◌, nat_lt}
+use Rattle.std.proofs.Common.{◌≡◌, ◌++◌, ◌+◌, ℕ, zero, suc, List, [], ◌∷◌, None, length, map, replicate, refl}
 use Rattle.std.specs.List.{AllByRecursion}
 use Rattle.std.proofs.lemmas.List.{length-replicate}
 use Rattle.wf_outside.specs.Pages.{DataPageValue}
 use Rattle.wf_flat.specs.State.{PageState, HartState}
-use Rattle.wf_flat.specs.Lists.{inserted_by, sorted_by}
+use Rattle.wf_flat.specs.Lists.{sorted_by}
 use Rattle.wf_flat.specs.Boot.{fresh_page, stacks_of, stack_of, numbered_from, boot_pages, boot_hart, boot_harts}
 use Rattle.wf_laws.specs.Laws.{StartsAreQuiet}
+use Rattle.wf_flat.proofs.ListLemmas.{all_append}
+use Rattle.wf_flat.proofs.SortLemmas.{all_sorted}
 
 -- a page of data that nobody holds and that has its 512 words
 abbrev IsFree : PageState → Type 0
@@ -16,22 +17,6 @@ IsFree page = (page.holder ≡ None) × (length page.words ≡ 512)
 -- a hart without a reservation
 abbrev IsUnreserved : HartState → Type 0
 IsUnreserved hart = hart.reservation ≡ None
-
-all_append : {A : Type 0} (P : A → Type 0) (xs ys : List A) → AllByRecursion P xs → AllByRecursion P ys → AllByRecursion P (xs ++ ys)
-all_append P [] ys all more = more
-all_append P (x ∷ xs) ys all more = (all.0, all_append P xs ys all.1 more)
-
-all_inserted : (P : PageState → Type 0) (page : PageState) (pages : List PageState) → P page → AllByRecursion P pages → AllByRecursion P (inserted_by (λ page. page.number) page pages)
-all_inserted P page [] h all = (h, tt)
-all_inserted P page (other ∷ pages) h all = by_test (all_inserted P page pages h all.1) (nat_lt other.number page.number)
-  where
-    by_test : AllByRecursion P (inserted_by (λ page. page.number) page pages) → (b : Bool) → AllByRecursion P (if b then other ∷ inserted_by (λ page. page.number) page pages else page ∷ other ∷ pages)
-    by_test rest true = (all.0, rest)
-    by_test rest false = (h, all)
-
-all_sorted : (P : PageState → Type 0) (pages : List PageState) → AllByRecursion P pages → AllByRecursion P (sorted_by (λ page. page.number) pages)
-all_sorted P [] all = tt
-all_sorted P (page ∷ pages) all = all_inserted P page (sorted_by (λ page. page.number) pages) all.0 (all_sorted P pages all.1)
 
 -- pages of an image are free at first
 fresh_free : (pages : List DataPageValue) → AllByRecursion (λ page. length page.words ≡ 512) pages → AllByRecursion IsFree (map fresh_page pages)
@@ -69,5 +54,5 @@ pub quiet : StartsAreQuiet
 quiet image harts limits full =
     let sorted : List PageState = sorted_by (λ (page : PageState). page.number) (map fresh_page image.pages) in
     let free : AllByRecursion IsFree (boot_pages image harts) =
-    numbered_free 0 (sorted ++ stacks_of harts) (all_append IsFree sorted (stacks_of harts) (all_sorted IsFree (map fresh_page image.pages) (fresh_free image.pages full)) (stacks_free harts)) in
+    numbered_free 0 (sorted ++ stacks_of harts) (all_append IsFree sorted (stacks_of harts) (all_sorted IsFree (λ (page : PageState). page.number) (map fresh_page image.pages) (fresh_free image.pages full)) (stacks_free harts)) in
     (unheld (boot_pages image harts) free, harts_unreserved image.entry harts, whole (boot_pages image harts) free)

@@ -1,32 +1,25 @@
 -- What no entry of a journal changes: the texts, the generations of the harts, and what a call has to do.
 use Rattle.std.proofs.Common.{◌≡◌, ℕ, zero, suc, List, [], ◌∷◌, ◌++◌, Option, Some, None, Bool, true, false, not, ◌&&◌, map, refl, sym, subst, ap, ap₂, ◌∙◌}
-use Rattle.std.specs.Prelude.{IsSomeAnd, MatchBool, is_some, slice_get, slice_index, option_and_then, if◌then◌else◌, ◌==◌, nat_lt}
+use Rattle.std.specs.Prelude.{MatchBool, is_some, slice_get, slice_index, option_and_then, if◌then◌else◌, ◌==◌, nat_lt}
 use Rattle.wf_flat.specs.declared.event.Actor.{Actor}
 use Rattle.wf_flat.specs.declared.event.Actor.TheVariants.{Hart, Kernel}
 use Rattle.wf_flat.specs.declared.event.Event.{Event}
 use Rattle.wf_flat.specs.declared.event.Event.TheVariants.{Fetch, Look, Take, Put, Swap, Miss, End, Again, Enter, Sync, Trap, Exit, Out, Idle, Refused}
 use Rattle.wf_flat.specs.declared.event.Entry.{Entry}
-use Rattle.wf_outside.specs.Pages.{PageValue}
+use Rattle.wf_outside.specs.Pages.{PageValue, page_of}
 use Rattle.wf_flat.specs.State.{FlatState, GenState, HartState, PageState}
 use Rattle.wf_flat.specs.Lists.{changed_at, others_changed, with_number}
-use Rattle.wf_flat.specs.Memory.{page_of, has_met}
-use Rattle.wf_flat.specs.Accesses.{Access, text_page, data_page, is_here, has_right, holds}
+use Rattle.wf_flat.specs.Memory.{has_met}
+use Rattle.wf_flat.specs.Accesses.{Access, accessed_text, accessed_data, is_here, has_right, holds}
 use Rattle.wf_flat.specs.Refusals.{refused_answer}
-use Rattle.wf_flat.specs.Steps.{MayAct, OfHart, Ask, Called, Stopped, Faulted, text_in, text_of, access_in, ask_of, flat_after, is_inside, change_page, note_page, noted, noted_in, fetched_with, looked_with, written_by, swapped_by, missed, ended, tried, exited_with, trapped_with, answered, given_back, give_back, give_back_by, give_back_of}
+use Rattle.wf_flat.specs.Steps.{MayAct, OfHart, Ask, Called, Stopped, Faulted, text_in, generation_text, access_in, ask_of, flat_after, is_inside, change_page, note_page, noted, noted_in, fetched_with, looked_with, written_by, swapped_by, missed, ended, tried, exited_with, trapped_with, answered, given_back, give_back, give_back_by, give_back_of}
 use Rattle.wf_flat.specs.Calls.{Call, Settling, Doing, Todo, Exactly, IsNext, todo_left, todo_by, todo_of, todo_of_call, todo_of_page, todo_of_access, access_trap, call_behind, closes_call}
 use Rattle.wf_flat.specs.Legal.{Moment, Allows, IsLegal, after, call_after, at_rest}
-use Rattle.wf_laws.proofs.DeterminedLemmas.{some_and}
+use Rattle.wf_flat.proofs.ListLemmas.{and_some, changed_next, some_and}
 
 -- the generations of the harts
 abbrev pub generations : List HartState → List ℕ
 generations harts = map (λ (hart : HartState). hart.generation) harts
-
-pub changed_next : (x : HartState) (xs : List HartState) (i : ℕ) (f : HartState → HartState) → changed_at (x ∷ xs) (suc i) f ≡ x ∷ changed_at xs i f
-changed_next x xs i f = by_there (slice_get xs i) refl
-  where
-    by_there : (o : Option HartState) → slice_get xs i ≡ o → changed_at (x ∷ xs) (suc i) f ≡ x ∷ changed_at xs i f
-    by_there None e = rw e refl
-    by_there (Some y) e = rw e refl
 
 -- a change that keeps the generation keeps them all
 kept : (f : HartState → HartState) → ((hart : HartState) → (f hart).generation ≡ hart.generation) → (harts : List HartState) (h : ℕ) → generations (changed_at harts h f) ≡ generations harts
@@ -146,11 +139,11 @@ page_quiet s hart access (Some page) = by_page (is_here page.stage && has_right 
     by_page true false = (refl, tt)
 
 access_quiet : (s : FlatState) (hart : HartState) (access : Access) → HasNoAct (todo_of_access s hart access)
-access_quiet s hart access = by_text (is_some (text_page s hart access))
+access_quiet s hart access = by_text (is_some (accessed_text s hart access))
   where
-    by_text : (text : Bool) → HasNoAct (if text then access_trap access else todo_of_page s hart access (data_page s access))
+    by_text : (text : Bool) → HasNoAct (if text then access_trap access else todo_of_page s hart access (accessed_data s access))
     by_text true = (refl, tt)
-    by_text false = page_quiet s hart access (data_page s access)
+    by_text false = page_quiet s hart access (accessed_data s access)
 
 ask_quiet : (s : FlatState) (hart : HartState) (ask : Ask) → IsQuiet (todo_of s hart ask)
 ask_quiet s hart Called = call_quiet (slice_index hart.arch.x 17) (slice_index hart.arch.x 10) hart.arch.pc
@@ -210,9 +203,6 @@ same_place (z ∷ xs) [] i x e g = absurd (cc)
 same_place (z ∷ xs) (y ∷ ys) zero x e g = let same : z ≡ x = cc in let gens : z.generation ≡ y.generation = cc in (y, refl, sym gens ∙ ap (λ (hart : HartState). hart.generation) same)
 same_place (z ∷ xs) (y ∷ ys) (suc i) x e g = let rest : generations xs ≡ generations ys = cc in same_place xs ys i x rest g
 
-pub and_some : (o : Option HartState) (P : HartState → Type 0) (x : HartState) → o ≡ Some x → P x → IsSomeAnd o P
-and_some o P x e h = subst (λ (p : Option HartState). IsSomeAnd p P) (sym e) h
-
 pub at_start : (s : FlatState) → Stays s (at_rest s)
 at_start s = record { texts = refl; harts = refl; quiet = tt }
 
@@ -248,17 +238,17 @@ kernel_acts m Idle act q a = cc
 kernel_acts m e act q a = by_side (is_inside m.flat.inside Kernel) m Kernel e act q a
 
 -- the text of a hart is that at the start
-pub same_text : (s : FlatState) (m : Moment) (h : ℕ) (hart : HartState) (P : List PageValue → Type 0) → Stays s m → slice_get m.flat.harts h ≡ Some hart → P (text_of m.flat hart.generation) → OfHart s h (λ (x : HartState). P (text_of s x.generation))
+pub same_text : (s : FlatState) (m : Moment) (h : ℕ) (hart : HartState) (P : List PageValue → Type 0) → Stays s m → slice_get m.flat.harts h ≡ Some hart → P (generation_text m.flat hart.generation) → OfHart s h (λ (x : HartState). P (generation_text s x.generation))
 same_text s m h hart P k is p =
     let v = same_place m.flat.harts s.harts h hart k.harts is in
-    let at_start : P (text_of s hart.generation) = subst (λ (gens : List GenState). P (text_in (slice_get gens hart.generation))) k.texts p in
-    and_some (slice_get s.harts h) _ v.0 v.1 (subst (λ (g : ℕ). P (text_of s g)) (sym v.2) at_start)
+    let at_start : P (generation_text s hart.generation) = subst (λ (gens : List GenState). P (text_in (slice_get gens hart.generation))) k.texts p in
+    and_some (slice_get s.harts h) _ v.0 v.1 (subst (λ (g : ℕ). P (generation_text s g)) (sym v.2) at_start)
 
 -- and what holds of that at the start holds of it
-pub text_now : (s : FlatState) (m : Moment) (h : ℕ) (hart : HartState) (P : List PageValue → Type 0) → Stays s m → slice_get m.flat.harts h ≡ Some hart → OfHart s h (λ (x : HartState). P (text_of s x.generation)) → P (text_of m.flat hart.generation)
+pub text_now : (s : FlatState) (m : Moment) (h : ℕ) (hart : HartState) (P : List PageValue → Type 0) → Stays s m → slice_get m.flat.harts h ≡ Some hart → OfHart s h (λ (x : HartState). P (generation_text s x.generation)) → P (generation_text m.flat hart.generation)
 text_now s m h hart P k is p =
     let v = same_place m.flat.harts s.harts h hart k.harts is in
     let w = some_and (slice_get s.harts h) _ p in
     let same : w.0 ≡ v.0 = cc in
-    let there : P (text_of s hart.generation) = subst (λ (g : ℕ). P (text_of s g)) v.2 (subst (λ (x : HartState). P (text_of s x.generation)) same w.2) in
+    let there : P (generation_text s hart.generation) = subst (λ (g : ℕ). P (generation_text s g)) v.2 (subst (λ (x : HartState). P (generation_text s x.generation)) same w.2) in
     subst (λ (gens : List GenState). P (text_in (slice_get gens hart.generation))) (sym k.texts) there

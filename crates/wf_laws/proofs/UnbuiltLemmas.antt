@@ -17,7 +17,7 @@ use Rattle.wf_flat.specs.declared.state.Life.TheVariants.{Running}
 use Rattle.wf_flat.specs.State.{FlatState, HartState}
 use Rattle.wf_flat.specs.Memory.{word_at}
 use Rattle.wf_flat.specs.Accesses.{Access, access_of}
-use Rattle.wf_flat.specs.Steps.{MayAct, Ask, Called, want_in, access_in, is_done, ask_of, ask_by, ask_of_word, text_of, fetched_with, change_hart, is_inside}
+use Rattle.wf_flat.specs.Steps.{MayAct, Ask, Called, want_in, access_in, is_done, ask_of, ask_by, ask_of_word, generation_text, fetched_with, change_hart, is_inside}
 use Rattle.wf_flat.specs.Unbuilt.{is_built_call}
 use Rattle.wf_flat.specs.Calls.{Settling, Todo, IsNext, todo_left, todo_by, todo_of, todo_of_call}
 use Rattle.wf_flat.specs.Legal.{Moment, Allows, IsLegal, after, at_rest}
@@ -25,7 +25,9 @@ use Rattle.wf_flat.specs.Follows.{IsUnit, ends_unit}
 use Rattle.wf_flat.specs.Unbuilt.{IsUnbuiltInst, IsUnbuiltWord}
 use Rattle.wf_laws.specs.Laws.{UnbuiltHasNoUnit}
 use Rattle.wf_flat.proofs.HartLemmas.{changed_get}
-use Rattle.wf_laws.proofs.DeterminedLemmas.{some_and, May, may_hart, taking, missing, fetch_access, not_done, no_ask}
+use Rattle.wf_flat.proofs.ListLemmas.{some_and}
+use Rattle.wf_laws.proofs.DeterminedLemmas.{May, may_hart, taking, missing, fetch_access, not_done, no_ask}
+use Rattle.wf_flat.proofs.JournalLemmas.{self_inside}
 
 -- no event is allowed, so there is no unit
 stuck : (m : Moment) (h : ℕ) → ((e : Event) → Allows m (Hart h) e → ⊥) → (unit : List Entry) → IsUnit h unit → IsLegal m unit → ⊥
@@ -54,9 +56,6 @@ outside m h e rest a =
 
 call_none : (number first pc : ℕ) → is_built_call number ≡ false → todo_of_call number first pc ≡ None
 call_none number first pc e = grind (arith, nat_tests)
-
-self_inside : (h : ℕ) → is_inside (Some (Hart h)) (Hart h) ≡ true
-self_inside h = grind (arith, nat_tests)
 
 -- the instruction is a call that is not built
 call_of : (o : Option Inst) (hart : HartState) → IsUnbuiltInst hart o → (o ≡ Some Ecall) × (is_built_call (slice_index hart.arch.x 17) ≡ false)
@@ -118,15 +117,15 @@ after_fetch : (s : FlatState) (h pc word : ℕ) → s.inside ≡ None → after 
 after_fetch s h pc word rest = rw rest refl
 
 -- a hart whose next word is not built asks for nothing before it has fetched it
-asked_at_text : (s : FlatState) (h : ℕ) (hart : HartState) (o : Option ℕ) → word_at (text_of s hart.generation) hart.arch.pc ≡ o → hart.fetched ≡ None → IsUnbuiltWord hart o → ask_of s h hart ≢ None → ⊥
+asked_at_text : (s : FlatState) (h : ℕ) (hart : HartState) (o : Option ℕ) → word_at (generation_text s hart.generation) hart.arch.pc ≡ o → hart.fetched ≡ None → IsUnbuiltWord hart o → ask_of s h hart ≢ None → ⊥
 asked_at_text s h hart None read none p asked = p
 asked_at_text s h hart (Some word) read none p asked = asked (no_ask s h hart word none read)
 
 -- at the start of a try
-at_start : (s : FlatState) (h : ℕ) (hart : HartState) → s.inside ≡ None → slice_get s.harts h ≡ Some hart → hart.life ≡ Running → hart.fetched ≡ None → IsUnbuiltWord hart (word_at (text_of s hart.generation) hart.arch.pc)
+at_start : (s : FlatState) (h : ℕ) (hart : HartState) → s.inside ≡ None → slice_get s.harts h ≡ Some hart → hart.life ≡ Running → hart.fetched ≡ None → IsUnbuiltWord hart (word_at (generation_text s hart.generation) hart.arch.pc)
     → (e : Event) → May s h hart e → (ends_unit e ≡ false) × ((unit : List Entry) → IsUnit h unit → IsLegal (after (at_rest s) (Hart h) e) unit → ⊥)
 at_start s h hart rest is runs none p (Fetch at word) q =
-    let read : word_at (text_of s hart.generation) hart.arch.pc ≡ Some word = subst (λ (a : ℕ). word_at (text_of s hart.generation) a ≡ Some word) q.1.1 q.1.2 in
+    let read : word_at (generation_text s hart.generation) hart.arch.pc ≡ Some word = subst (λ (a : ℕ). word_at (generation_text s hart.generation) a ≡ Some word) q.1.1 q.1.2 in
     let unbuilt : IsUnbuiltInst hart (inst_of word) = subst (λ (o : Option ℕ). IsUnbuiltWord hart o) read p in
     let next : HartState = fetched_with word hart in
     let s' : FlatState = change_hart s h (fetched_with word) in
@@ -140,12 +139,12 @@ at_start s h hart rest is runs none p (Take page) q = absurd (fetch_access hart 
 at_start s h hart rest is runs none p (Put va width value) q = absurd (fetch_access hart _ none q.1.0)
 at_start s h hart rest is runs none p (Swap va width old new) q = absurd (fetch_access hart _ none q.1.0)
 at_start s h hart rest is runs none p (Miss va) q = absurd (fetch_access hart _ none (missing s h hart va q.1).is_access)
-at_start s h hart rest is runs none p Enter q = absurd (asked_at_text s h hart (word_at (text_of s hart.generation) hart.arch.pc) refl none p q.1.1)
+at_start s h hart rest is runs none p Enter q = absurd (asked_at_text s h hart (word_at (generation_text s hart.generation) hart.arch.pc) refl none p q.1.1)
 at_start s h hart rest is runs none p Idle q = absurd (q runs)
 at_start s h hart rest is runs none p e q = absurd q
 
 pub no_unit : UnbuiltHasNoUnit
 no_unit s h pc unit rest b u l =
     let w = some_and (slice_get s.harts h) _ b in
-    let word : IsUnbuiltWord w.0 (word_at (text_of s w.0.generation) w.0.arch.pc) = subst (λ (a : ℕ). IsUnbuiltWord w.0 (word_at (text_of s w.0.generation) a)) w.2.2 w.2.3 in
+    let word : IsUnbuiltWord w.0 (word_at (generation_text s w.0.generation) w.0.arch.pc) = subst (λ (a : ℕ). IsUnbuiltWord w.0 (word_at (generation_text s w.0.generation) a)) w.2.2 w.2.3 in
     goes_on (at_rest s) h (λ e a. at_start s h w.0 rest w.1 w.2.0 w.2.1 word e (may_hart s h w.0 e w.1 (outside (at_rest s) h e rest a))) unit u l

@@ -18,18 +18,21 @@ use Rattle.wf_flat.specs.declared.event.Entry.{Entry}
 abbrev pub hex : ℕ → List ℕ
 hex n = digits 16 false n
 
--- and with so many digits at least
+-- lower-case hexadecimal, with so many digits at least
 abbrev pub hex_wide : ℕ → ℕ → List ℕ
 hex_wide width n = padded_integral (format_spec 32 0 4 width (2 ^ 64 - 1)) false [] (hex n)
 
+-- an actor: a hart by its number, or the kernel's own
 abbrev pub actor_text : Actor → List ℕ
 actor_text (Hart h) = codes "h" ++ decimal h
 actor_text Kernel = codes "k"
 
+-- what an actor waits for
 abbrev pub wait_text : WaitFor → List ℕ
 wait_text (Page page) = codes "page " ++ hex page
 wait_text (wait.Kernel actor) = codes "kernel " ++ actor_text actor
 
+-- why a call was refused
 abbrev pub refusal_text : Refusal → List ℕ
 refusal_text Argument = codes "argument"
 refusal_text (Overlap page) = codes "overlap " ++ hex page
@@ -53,12 +56,17 @@ abbrev pub patch_text : List ℕ → Option ℕ → List ℕ
 patch_text none None = none
 patch_text none (Some k) = codes "p" ++ decimal k
 
+-- an event: its name, and its fields in order
 abbrev pub event_text : Event → List ℕ
 event_text (Fetch pc word) = codes "fetch " ++ hex pc ++ codes " " ++ hex_wide 8 word
-event_text (Look va width value) = codes "look " ++ hex va ++ codes " " ++ decimal width ++ codes " " ++ hex value
+event_text (Look va width value) =
+    codes "look " ++ hex va ++ codes " " ++ decimal width ++ codes " " ++ hex value
 event_text (Take page) = codes "take " ++ hex page
-event_text (Put va width value) = codes "put " ++ hex va ++ codes " " ++ decimal width ++ codes " " ++ hex value
-event_text (Swap va width old new) = codes "swap " ++ hex va ++ codes " " ++ decimal width ++ codes " " ++ hex old ++ codes " " ++ hex new
+event_text (Put va width value) =
+    codes "put " ++ hex va ++ codes " " ++ decimal width ++ codes " " ++ hex value
+event_text (Swap va width old new) =
+    codes "swap " ++ hex va ++ codes " " ++ decimal width ++ codes " " ++ hex old ++ codes " "
+    ++ hex new
 event_text (Miss va) = codes "miss " ++ hex va
 event_text (End pc) = codes "end " ++ hex pc
 event_text (Again page) = codes "again " ++ hex page
@@ -69,15 +77,20 @@ event_text (Trap cause value) = codes "trap " ++ decimal cause ++ codes " " ++ h
 event_text (Exit code) = codes "exit " ++ decimal code
 event_text (Out byte) = codes "out " ++ hex_wide 2 byte
 event_text Idle = codes "idle"
-event_text (Map page n write patch) = codes "map " ++ hex page ++ codes " " ++ decimal n ++ codes " " ++ right_text write ++ codes " " ++ patch_text (codes "z") patch
+event_text (Map page n write patch) =
+    codes "map " ++ hex page ++ codes " " ++ decimal n ++ codes " " ++ right_text write ++ codes " "
+    ++ patch_text (codes "z") patch
 event_text (Going page n) = codes "going " ++ hex page ++ codes " " ++ decimal n
 event_text (Ending page) = codes "ending " ++ hex page
 event_text (Gone page false) = codes "gone " ++ hex page
 event_text (Gone page true) = codes "gone " ++ hex page ++ codes " worn"
-event_text (Born generation parent patch) = codes "born " ++ decimal generation ++ codes " " ++ decimal parent ++ codes " " ++ patch_text (codes "-") patch
+event_text (Born generation parent patch) =
+    codes "born " ++ decimal generation ++ codes " " ++ decimal parent ++ codes " "
+    ++ patch_text (codes "-") patch
 event_text (Move generation) = codes "move " ++ decimal generation
 event_text (Dead generation) = codes "dead " ++ decimal generation
 event_text (Refused reason) = codes "refused " ++ refusal_text reason
 
+-- an entry: its actor, a space, and its event
 abbrev pub entry_bytes : Entry → List ℕ
 entry_bytes entry = actor_text entry.actor ++ codes " " ++ event_text entry.event

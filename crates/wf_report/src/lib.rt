@@ -3,7 +3,5 @@
 
 mod lines;
 mod reporting;
-#[cfg(test)]
-mod tests;
 
 pub use reporting::report;

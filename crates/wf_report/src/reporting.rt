@@ -8,7 +8,7 @@ use std::alloc::Global;
 use std::fmt;
 use std::fmt::Write;
 use wf_flat::{Entry, Flat, FlatHart, FlatPage, Gen, Life, Stage};
-use wf_outside::Memory;
+use wf_outside::{Memory, PAGE_SIZE};
 
 // The first lines.
 #[tactic(auto, unfolding(crate::specs::Report::header))]
@@ -21,7 +21,8 @@ fn append_header(out: &mut String, harts: usize, frames: u32) -> Result<(), Memo
 
 // The lines of the journal.
 fn append_entries(out: &mut String, entries: &[Entry]) -> Result<(), Memory>
-    ensures { OnOk result (string_bytes out.new ≡ string_bytes out.old ++ flat_map entry_line entries.now) }
+    ensures { OnOk result
+        (string_bytes out.new ≡ string_bytes out.old ++ flat_map entry_line entries.now) }
 {
     for entry in entries {
         writeln!(out, "{}", EntryText(*entry))?;
@@ -31,7 +32,8 @@ fn append_entries(out: &mut String, entries: &[Entry]) -> Result<(), Memory>
 
 // Registers, each after a space.
 fn append_registers(out: &mut String, registers: &[u64]) -> Result<(), Memory>
-    ensures { OnOk result (string_bytes out.new ≡ string_bytes out.old ++ flat_map register_text registers.now) }
+    ensures { OnOk result
+        (string_bytes out.new ≡ string_bytes out.old ++ flat_map register_text registers.now) }
 {
     for register in registers {
         write!(out, " {register:x}")?;
@@ -58,7 +60,8 @@ impl fmt::Display for LifeText {
 // The first line of a hart.
 #[tactic(auto, unfolding(crate::specs::Report::hart_head))]
 fn append_head(out: &mut String, number: usize, hart: &FlatHart) -> Result<(), Memory>
-    ensures { OnOk result (string_bytes out.new ≡ string_bytes out.old ++ hart_head number hart.now) }
+    ensures { OnOk result
+        (string_bytes out.new ≡ string_bytes out.old ++ hart_head number hart.now) }
 {
     let generation = hart.generation;
     let pc = hart.arch.pc;
@@ -81,7 +84,8 @@ fn append_registers_head(out: &mut String, number: usize) -> Result<(), Memory>
 
 // The two lines of a hart.
 fn append_hart(out: &mut String, number: usize, hart: &FlatHart) -> Result<(), Memory>
-    ensures { OnOk result (string_bytes out.new ≡ string_bytes out.old ++ hart_lines number hart.now) }
+    ensures { OnOk result
+        (string_bytes out.new ≡ string_bytes out.old ++ hart_lines number hart.now) }
 {
     append_head(out, number, hart)?;
     append_registers_head(out, number)?;
@@ -151,7 +155,8 @@ fn append_gen(out: &mut String, generation: &Gen) -> Result<(), Memory>
 
 // The lines of the generations.
 fn append_gens(out: &mut String, gens: &[Gen]) -> Result<(), Memory>
-    ensures { OnOk result (string_bytes out.new ≡ string_bytes out.old ++ flat_map gen_line gens.now) }
+    ensures { OnOk result
+        (string_bytes out.new ≡ string_bytes out.old ++ flat_map gen_line gens.now) }
 {
     for generation in gens {
         append_gen(out, generation)?;
@@ -240,14 +245,15 @@ fn append_page(out: &mut String, page: &FlatPage) -> Result<(), Memory>
 {
     append_page_line(out, page)?;
     if page.writes != 0 {
-        append_words(out, page.number as u64 * 4096, &page.words)?;
+        append_words(out, page.number as u64 * PAGE_SIZE, &page.words)?;
     }
     Ok(())
 }
 
 // The lines of the pages.
 fn append_pages(out: &mut String, pages: &[FlatPage]) -> Result<(), Memory>
-    ensures { OnOk result (string_bytes out.new ≡ string_bytes out.old ++ flat_map page_lines pages.now) }
+    ensures { OnOk result
+        (string_bytes out.new ≡ string_bytes out.old ++ flat_map page_lines pages.now) }
 {
     for page in pages {
         append_page(out, page)?;

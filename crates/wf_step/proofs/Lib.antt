@@ -1,5 +1,4 @@
-pub mod DeedLemmas
-pub mod JournalLemmas
+pub mod ActionLemmas
 pub mod StepLemmas
 pub mod AccessLemmas
 pub mod MakingLemmas

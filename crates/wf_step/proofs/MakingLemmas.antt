@@ -17,35 +17,38 @@ use Rattle.wf_flat.specs.declared.event.Entry.{Entry}
 use Rattle.wf_flat.specs.declared.state.Life.TheVariants.{Running}
 use Rattle.wf_flat.specs.State.{FlatState, HartState, PageState}
 use Rattle.wf_flat.specs.Lists.{changed_at, changed_by, found_by, inserted_by}
-use Rattle.wf_flat.specs.Memory.{page_of, data_in, has_met, with_met, met_key}
+use Rattle.wf_outside.specs.Pages.{page_of}
+use Rattle.wf_flat.specs.Memory.{data_in, has_met, with_met, met_key}
 use Rattle.wf_flat.specs.Ordered.{IsOrdered}
-use Rattle.wf_flat.specs.Accesses.{Access, access_of, holds, holds_page, held_by}
+use Rattle.wf_flat.specs.Serving.{held_by}
+use Rattle.wf_flat.specs.Accesses.{Access, access_of, holds, holds_page}
 use Rattle.wf_flat.specs.Steps.{OfHart, MayLook, MayTake, MayPut, MaySwap, MayMiss, want_in, access_in, inst_in, is_conditional, has_written, has_ended, is_done, arch_by, arch_after, looked_with, written_by, swapped_by, missed, taken_by, put_with, flat_after, change_hart, change_page}
 use Rattle.wf_flat.proofs.HartLemmas.{changed_get}
 use Rattle.wf_step.specs.Stepping.{IsActing, IsSame, IsDone, IsTrying, InAccess, Begins}
-use Rattle.wf_step.proofs.StepLemmas.{entry, some_and, and_some, left, but_changed, length_changed, IsOwned, acts_on, open_made}
+use Rattle.wf_flat.proofs.ListLemmas.{some_and, and_some, length_changed}
+use Rattle.wf_step.proofs.StepLemmas.{entry, left, but_changed, IsOwned, acts_on, open_made}
 use Rattle.wf_step.proofs.AccessLemmas.{wanted}
 
 -- a look, a take, a put, a swap and a miss are made
 pub look_made : (s mid new : FlatState) (before now later : List Entry) (h va width value : ℕ) → Begins s before mid now h → mid.inside ≡ None
     → OfHart mid h (λ hart. (hart.life ≡ Running) × MayLook mid h hart va width value) → new ≡ flat_after mid (Hart h) (Look va width value) → later ≡ now ++ entry h (Look va width value) ∷ [] → Begins s before new later h
-look_made s mid new before now later h va width value b inside may n noted = open_made s mid new before now later h (Look va width value) b inside may refl (rw inside refl) n noted
+look_made s mid new before now later h va width value b inside may n appended = open_made s mid new before now later h (Look va width value) b inside may refl (rw inside refl) n appended
 
 pub take_made : (s mid new : FlatState) (before now later : List Entry) (h page : ℕ) → Begins s before mid now h → mid.inside ≡ None
     → OfHart mid h (λ hart. (hart.life ≡ Running) × MayTake mid hart (access_in hart) page) → new ≡ flat_after mid (Hart h) (Take page) → later ≡ now ++ entry h (Take page) ∷ [] → Begins s before new later h
-take_made s mid new before now later h page b inside may n noted = open_made s mid new before now later h (Take page) b inside may refl (rw inside refl) n noted
+take_made s mid new before now later h page b inside may n appended = open_made s mid new before now later h (Take page) b inside may refl (rw inside refl) n appended
 
 pub put_made : (s mid new : FlatState) (before now later : List Entry) (h va width value : ℕ) → Begins s before mid now h → mid.inside ≡ None
     → OfHart mid h (λ hart. (hart.life ≡ Running) × MayPut mid h hart va width value) → new ≡ flat_after mid (Hart h) (Put va width value) → later ≡ now ++ entry h (Put va width value) ∷ [] → Begins s before new later h
-put_made s mid new before now later h va width value b inside may n noted = open_made s mid new before now later h (Put va width value) b inside may refl (rw inside refl) n noted
+put_made s mid new before now later h va width value b inside may n appended = open_made s mid new before now later h (Put va width value) b inside may refl (rw inside refl) n appended
 
 pub swap_made : (s mid new : FlatState) (before now later : List Entry) (h va width old value : ℕ) → Begins s before mid now h → mid.inside ≡ None
     → OfHart mid h (λ hart. (hart.life ≡ Running) × MaySwap mid h hart va width old value) → new ≡ flat_after mid (Hart h) (Swap va width old value) → later ≡ now ++ entry h (Swap va width old value) ∷ [] → Begins s before new later h
-swap_made s mid new before now later h va width old value b inside may n noted = open_made s mid new before now later h (Swap va width old value) b inside may refl (rw inside refl) n noted
+swap_made s mid new before now later h va width old value b inside may n appended = open_made s mid new before now later h (Swap va width old value) b inside may refl (rw inside refl) n appended
 
 pub miss_made : (s mid new : FlatState) (before now later : List Entry) (h va : ℕ) → Begins s before mid now h → mid.inside ≡ None
     → OfHart mid h (λ hart. (hart.life ≡ Running) × MayMiss mid h hart (access_in hart) va) → new ≡ flat_after mid (Hart h) (Miss va) → later ≡ now ++ entry h (Miss va) ∷ [] → Begins s before new later h
-miss_made s mid new before now later h va b inside may n noted = open_made s mid new before now later h (Miss va) b inside may refl (rw inside refl) n noted
+miss_made s mid new before now later h va b inside may n appended = open_made s mid new before now later h (Miss va) b inside may refl (rw inside refl) n appended
 
 -- the hart goes on in its try
 pub look_acts : (s new : FlatState) (h va width value : ℕ) (held : Option ℕ) → IsActing s h held → new ≡ flat_after s (Hart h) (Look va width value) → IsActing new h held

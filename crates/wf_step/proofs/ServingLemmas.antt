@@ -1,5 +1,5 @@
 -- What the steps of an access may rely on, from what was found.
-use Rattle.std.proofs.Common.{◌≡◌, ◌≢◌, ◌<◌, ◌%◌, ℕ, List, [], ◌∷◌, Option, Some, None, Bool, true, false, length, refl, sym, subst, ap, ◌∙◌}
+use Rattle.std.proofs.Common.{◌≡◌, ◌≢◌, ◌%◌, ℕ, List, [], ◌∷◌, Option, Some, None, Bool, true, false, refl, sym, subst, ap, ◌∙◌}
 use Rattle.std.specs.Prelude.{IsSomeAnd, IfSome, slice_get, ◌*◌, ◌^◌, ◌==◌, ◌||◌, ◌&&◌, not, is_some, nat_lt, if◌then◌else◌}
 use Rattle.std.specs.Option.{option_map}
 use Rattle.std.specs.List.{AllByRecursion}
@@ -9,36 +9,35 @@ use Rattle.rv_inst.specs.declared.inst.Inst.{Inst}
 use Rattle.rv_inst.specs.declared.want.Want.{Want}
 use Rattle.rv_inst.specs.Arch.{ArchState}
 use Rattle.rv_inst.specs.Meanings.{want_of}
-use Rattle.wf_outside.specs.Pages.{PageValue}
+use Rattle.wf_outside.specs.Pages.{PageValue, page_of}
 use Rattle.wf_flat.specs.declared.event.Event.TheVariants as events
 use Rattle.wf_flat.specs.declared.state.Life.TheVariants.{Running}
 use Rattle.wf_flat.specs.declared.state.Reservation.{Reservation}
 use Rattle.wf_flat.specs.State.{FlatState, HartState, PageState}
-use Rattle.wf_flat.specs.Memory.{page_of, page_in, data_in, number_in, has_met, with_met}
-use Rattle.wf_flat.specs.Accesses.{Access, access_of, holds, holds_page, held_by, is_open, is_reached, stands, text_of, text_page, data_page, has_right}
+use Rattle.wf_flat.specs.Memory.{page_in, data_in, number_in, has_met, with_met}
+use Rattle.wf_flat.specs.Serving.{held_by}
+use Rattle.wf_flat.specs.Accesses.{Access, access_of, holds, holds_page, is_open, is_reached, stands, generation_text, accessed_text, accessed_data, has_right}
 use Rattle.wf_flat.specs.Steps.{OfHart, MayLook, MayTake, MayPut, MaySwap, MayMiss, Reads, access_in, want_in, reserves, is_conditional, is_lost, misses, takes_for, put_of, swap_of, taken_by}
 use Rattle.wf_flat.specs.declared.state.Stage.TheVariants.{Here}
 use Rattle.wf_flat.specs.Calls.{Exactly, todo_of_page}
 use Rattle.wf_step.specs.declared.accesses.Found.{Found}
-use Rattle.wf_step.specs.declared.deeds.Operand.{Operand}
-use Rattle.wf_step.specs.declared.deeds.Write.{Write}
-use Rattle.wf_step.specs.declared.deeds.Write.TheVariants.{Put, PutIf, Swap}
-use Rattle.wf_step.specs.Stepping.{IsTrying, InAccess, IsLoad, IsStore, IsSettled, IsFound, IsUnmet, IsMeeting, IsToDo, IsNear, WillReach, WillWrite, load_at, store_at, load_want, store_want}
-use Rattle.wf_step.proofs.StepLemmas.{some_and, and_some, both, each, there_by}
-use Rattle.wf_step.proofs.AccessLemmas.{wanted, accessed, found_free, found_number, not_held, faults, barred_by, text_bars, todo_in_text, todo_without_text, reach, free_reads, held_reads, free_taken}
+use Rattle.wf_step.specs.declared.actions.Operand.{Operand}
+use Rattle.wf_step.specs.declared.actions.Write.{Write}
+use Rattle.wf_step.specs.declared.actions.Write.TheVariants.{Put, PutIf, Swap}
+use Rattle.wf_step.specs.Stepping.{IsTrying, InAccess, IsLoad, IsStore, IsSettled, IsFound, IsPageToSync, IsMeeting, IsToDo, IsNear, WillReach, WillWrite, load_at, store_at, load_want, store_want}
+use Rattle.wf_flat.proofs.ListLemmas.{some_and, and_some}
+use Rattle.wf_step.proofs.StepLemmas.{both, each}
+use Rattle.wf_flat.proofs.FoundLemmas.{data_number}
+use Rattle.wf_step.proofs.AccessLemmas.{wanted, accessed, found_free, not_held, faults, barred_by, text_bars, todo_in_text, todo_without_text, reach, free_reads, held_reads, free_taken}
 use Rattle.wf_step.proofs.MakingLemmas.{still_in, held_page, holds_by, met_now}
 
 -- no text of the hart's generation is at the address
 abbrev pub IsTextless : FlatState → ℕ → ℕ → Type 0
-IsTextless s h va = OfHart s h (λ hart. page_in (text_of s hart.generation) (page_of va) ≡ None)
+IsTextless s h va = OfHart s h (λ hart. page_in (generation_text s hart.generation) (page_of va) ≡ None)
 
 -- what the hart wants is no store-conditional that misses wherever it points
 abbrev pub IsKept : FlatState → ℕ → Type 0
 IsKept s h = OfHart s h (λ hart. is_lost (want_in hart) hart.reservation ≡ false)
-
--- a hart of which something holds is there
-pub there_of : (s : FlatState) (h : ℕ) (P : HartState → Type 0) → OfHart s h P → h < length s.harts
-there_of s h P ready = let w = some_and (slice_get s.harts h) P ready in there_by s.harts h w.0 w.1
 
 -- the accesses of a load and of a write, and what they want
 pub load_access : (arch : ArchState) (operand : Operand) (reserving : Bool) → IsLoad arch operand reserving → access_of (Some (want_of operand.inst arch)) ≡ Some (load_at operand)
@@ -91,20 +90,20 @@ mapped_none : {A B : Type 0} (f : A → B) (o : Option A) → None ≡ option_ma
 mapped_none f None e = refl
 mapped_none f (Some x) e = absurd (cc)
 
-pub textless : (s : FlatState) (h va width : ℕ) (value : Option ℕ) → OfHart s h (λ hart. value ≡ option_map (λ (page : PageValue). number_in page.words (va % 4096) width) (page_in (text_of s hart.generation) (page_of va))) → value ≡ None → IsTextless s h va
+pub textless : (s : FlatState) (h va width : ℕ) (value : Option ℕ) → OfHart s h (λ hart. value ≡ option_map (λ (page : PageValue). number_in page.words (va % 4096) width) (page_in (generation_text s hart.generation) (page_of va))) → value ≡ None → IsTextless s h va
 textless s h va width value read none =
-    each (slice_get s.harts h) (λ (hart : HartState). value ≡ option_map (λ (page : PageValue). number_in page.words (va % 4096) width) (page_in (text_of s hart.generation) (page_of va))) (λ (hart : HartState). page_in (text_of s hart.generation) (page_of va) ≡ None)
-    (λ hart is e. mapped_none (λ (page : PageValue). number_in page.words (va % 4096) width) (page_in (text_of s hart.generation) (page_of va)) (sym none ∙ e)) read
+    each (slice_get s.harts h) (λ (hart : HartState). value ≡ option_map (λ (page : PageValue). number_in page.words (va % 4096) width) (page_in (generation_text s hart.generation) (page_of va))) (λ (hart : HartState). page_in (generation_text s hart.generation) (page_of va) ≡ None)
+    (λ hart is e. mapped_none (λ (page : PageValue). number_in page.words (va % 4096) width) (page_in (generation_text s hart.generation) (page_of va)) (sym none ∙ e)) read
 
 mapped_some : {A B : Type 0} (f : A → B) (o : Option A) → is_some (option_map f o) ≡ true → o ≢ None
 mapped_some f None e = absurd (cc)
 mapped_some f (Some x) e = λ c. cc
 
-pub textful : (s : FlatState) (h va width : ℕ) (value : Option ℕ) → OfHart s h (λ hart. value ≡ option_map (λ (page : PageValue). number_in page.words (va % 4096) width) (page_in (text_of s hart.generation) (page_of va))) → is_some value ≡ true
-    → OfHart s h (λ hart. page_in (text_of s hart.generation) (page_of va) ≢ None)
+pub textful : (s : FlatState) (h va width : ℕ) (value : Option ℕ) → OfHart s h (λ hart. value ≡ option_map (λ (page : PageValue). number_in page.words (va % 4096) width) (page_in (generation_text s hart.generation) (page_of va))) → is_some value ≡ true
+    → OfHart s h (λ hart. page_in (generation_text s hart.generation) (page_of va) ≢ None)
 textful s h va width value read some =
-    each (slice_get s.harts h) (λ (hart : HartState). value ≡ option_map (λ (page : PageValue). number_in page.words (va % 4096) width) (page_in (text_of s hart.generation) (page_of va))) (λ (hart : HartState). page_in (text_of s hart.generation) (page_of va) ≢ None)
-    (λ hart is e. mapped_some (λ (page : PageValue). number_in page.words (va % 4096) width) (page_in (text_of s hart.generation) (page_of va)) (sym (ap is_some e) ∙ some)) read
+    each (slice_get s.harts h) (λ (hart : HartState). value ≡ option_map (λ (page : PageValue). number_in page.words (va % 4096) width) (page_in (generation_text s hart.generation) (page_of va))) (λ (hart : HartState). page_in (generation_text s hart.generation) (page_of va) ≢ None)
+    (λ hart is e. mapped_some (λ (page : PageValue). number_in page.words (va % 4096) width) (page_in (generation_text s hart.generation) (page_of va)) (sym (ap is_some e) ∙ some)) read
 
 pub is_none : (o : Option ℕ) → false ≡ is_some o → o ≡ None
 is_none None e = refl
@@ -122,7 +121,7 @@ not_last false e = refl
 pub missing : (s : FlatState) (h : ℕ) (arch : ArchState) (inst : Inst) (access : Access) → AllByRecursion IsSettled s.pages → InAccess s h arch inst → IsKept s h → access_of (Some (want_of inst arch)) ≡ Some access → IsTextless s h access.va
     → data_in s.pages (page_of access.va) ≡ None → OfHart s h (λ hart. IsToDo s h hart (Exactly (events.Trap (if access.write then 15 else 13) access.va) ∷ []))
 missing s h arch inst access free ready kept e text none =
-    each (slice_get s.harts h) (λ (hart : HartState). (IsTrying arch inst hart × (is_lost (want_in hart) hart.reservation ≡ false)) × (page_in (text_of s hart.generation) (page_of access.va) ≡ None))
+    each (slice_get s.harts h) (λ (hart : HartState). (IsTrying arch inst hart × (is_lost (want_in hart) hart.reservation ≡ false)) × (page_in (generation_text s hart.generation) (page_of access.va) ≡ None))
     (λ (hart : HartState). IsToDo s h hart (Exactly (events.Trap (if access.write then 15 else 13) access.va) ∷ []))
     (λ hart is t. (
       t.0.0.0,
@@ -131,9 +130,9 @@ missing s h arch inst access free ready kept e text none =
 
 -- to text, which is not written
 pub in_text : (s : FlatState) (h : ℕ) (arch : ArchState) (inst : Inst) (access : Access) → AllByRecursion IsSettled s.pages → InAccess s h arch inst → IsKept s h → access_of (Some (want_of inst arch)) ≡ Some access
-    → OfHart s h (λ hart. page_in (text_of s hart.generation) (page_of access.va) ≢ None) → access.write ≡ true → OfHart s h (λ hart. IsToDo s h hart (Exactly (events.Trap 15 access.va) ∷ []))
+    → OfHart s h (λ hart. page_in (generation_text s hart.generation) (page_of access.va) ≢ None) → access.write ≡ true → OfHart s h (λ hart. IsToDo s h hart (Exactly (events.Trap 15 access.va) ∷ []))
 in_text s h arch inst access free ready kept e text writes =
-    each (slice_get s.harts h) (λ (hart : HartState). (IsTrying arch inst hart × (is_lost (want_in hart) hart.reservation ≡ false)) × (page_in (text_of s hart.generation) (page_of access.va) ≢ None))
+    each (slice_get s.harts h) (λ (hart : HartState). (IsTrying arch inst hart × (is_lost (want_in hart) hart.reservation ≡ false)) × (page_in (generation_text s hart.generation) (page_of access.va) ≢ None))
     (λ (hart : HartState). IsToDo s h hart (Exactly (events.Trap 15 access.va) ∷ []))
     (λ hart is t. (
       t.0.0.0,
@@ -153,7 +152,7 @@ denied s h arch inst access found free ready kept e text found_is writes denies 
     let here = found_free s.pages (page_of access.va) d.0 free d.1 in
     let no : d.0.write ≡ false = sym d.2.1 ∙ not_last found.write (sym denies) in
     let right : has_right access d.0 ≡ false = rw (writes, no) refl in
-    each (slice_get s.harts h) (λ (hart : HartState). (IsTrying arch inst hart × (is_lost (want_in hart) hart.reservation ≡ false)) × (page_in (text_of s hart.generation) (page_of access.va) ≡ None))
+    each (slice_get s.harts h) (λ (hart : HartState). (IsTrying arch inst hart × (is_lost (want_in hart) hart.reservation ≡ false)) × (page_in (generation_text s hart.generation) (page_of access.va) ≡ None))
     (λ (hart : HartState). IsToDo s h hart (Exactly (events.Trap 15 access.va) ∷ []))
     (λ hart is t. (
       t.0.0.0,
@@ -161,36 +160,36 @@ denied s h arch inst access found free ready kept e text found_is writes denies 
           ∙ ap Some (todo_without_text s hart access t.1 ∙ rw d.1 (rw (here.0, right, writes) refl)),
     )) (both (slice_get s.harts h) _ _ (both (slice_get s.harts h) _ _ ready kept) text)
 
-todo_unmet : (s : FlatState) (hart : HartState) (access : Access) (page : PageState) → data_page s access ≡ Some page → page.stage ≡ Here → has_right access page ≡ true → has_met s.met hart.generation page.number ≡ false
-    → todo_of_page s hart access (data_page s access) ≡ Exactly (events.Sync hart.generation page.number) ∷ []
-todo_unmet s hart access page is here right unmet = rw is (rw (here, right, unmet) refl)
+todo_sync : (s : FlatState) (hart : HartState) (access : Access) (page : PageState) → accessed_data s access ≡ Some page → page.stage ≡ Here → has_right access page ≡ true → has_met s.met hart.generation page.number ≡ false
+    → todo_of_page s hart access (accessed_data s access) ≡ Exactly (events.Sync hart.generation page.number) ∷ []
+todo_sync s hart access page is here right page_to_sync = rw is (rw (here, right, page_to_sync) refl)
 
 -- a page that was not met is met first
 pub meets : (s : FlatState) (h : ℕ) (arch : ArchState) (inst : Inst) (access : Access) (found : Found) (met : Option (List (ℕ × ℕ))) → AllByRecursion IsSettled s.pages → InAccess s h arch inst → IsKept s h → access_of (Some (want_of inst arch)) ≡ Some access
-    → IsTextless s h access.va → IsFound s (page_of access.va) found → ((page : PageState) → page.write ≡ found.write → has_right access page ≡ true) → IsUnmet s h access.va met → IsMeeting s h found.page met
-meets s h arch inst access found None free ready kept e text found_is right unmet =
+    → IsTextless s h access.va → IsFound s (page_of access.va) found → ((page : PageState) → page.write ≡ found.write → has_right access page ≡ true) → IsPageToSync s h access.va met → IsMeeting s h found.page met
+meets s h arch inst access found None free ready kept e text found_is right page_to_sync =
     let d = some_and (data_in s.pages (page_of access.va)) _ found_is in
-    let met : OfHart s h (λ hart. has_met s.met hart.generation d.0.number ≡ true) = subst (λ (o : Option PageState). IfSome o (λ page. OfHart s h (λ hart. has_met s.met hart.generation page.number ≡ true))) d.1 unmet in
+    let met : OfHart s h (λ hart. has_met s.met hart.generation d.0.number ≡ true) = subst (λ (o : Option PageState). IfSome o (λ page. OfHart s h (λ hart. has_met s.met hart.generation page.number ≡ true))) d.1 page_to_sync in
     subst (λ (n : ℕ). OfHart s h (λ hart. has_met s.met hart.generation n ≡ true)) (sym d.2.0) met
-meets s h arch inst access found (Some met) free ready kept e text found_is right unmet =
+meets s h arch inst access found (Some met) free ready kept e text found_is right page_to_sync =
     let d = some_and (data_in s.pages (page_of access.va)) _ found_is in
     let here = found_free s.pages (page_of access.va) d.0 free d.1 in
     let may : has_right access d.0 ≡ true = right d.0 (sym d.2.1) in
     let u : OfHart s h (λ hart. (has_met s.met hart.generation d.0.number ≡ false) × (met ≡ with_met s.met hart.generation d.0.number))
-    = subst (λ (o : Option PageState). IsSomeAnd o (λ page. OfHart s h (λ hart. (has_met s.met hart.generation page.number ≡ false) × (met ≡ with_met s.met hart.generation page.number)))) d.1 unmet.0 in
+    = subst (λ (o : Option PageState). IsSomeAnd o (λ page. OfHart s h (λ hart. (has_met s.met hart.generation page.number ≡ false) × (met ≡ with_met s.met hart.generation page.number)))) d.1 page_to_sync.0 in
     let asks : OfHart s h (λ hart. IsToDo s h hart (Exactly (events.Sync hart.generation d.0.number) ∷ []) × (met ≡ with_met s.met hart.generation d.0.number))
     = each (slice_get s.harts h)
-    (λ (hart : HartState). ((IsTrying arch inst hart × (is_lost (want_in hart) hart.reservation ≡ false)) × (page_in (text_of s hart.generation) (page_of access.va) ≡ None)) × ((has_met s.met hart.generation d.0.number ≡ false) × (met ≡ with_met s.met hart.generation d.0.number)))
+    (λ (hart : HartState). ((IsTrying arch inst hart × (is_lost (want_in hart) hart.reservation ≡ false)) × (page_in (generation_text s hart.generation) (page_of access.va) ≡ None)) × ((has_met s.met hart.generation d.0.number ≡ false) × (met ≡ with_met s.met hart.generation d.0.number)))
     (λ (hart : HartState). IsToDo s h hart (Exactly (events.Sync hart.generation d.0.number) ∷ []) × (met ≡ with_met s.met hart.generation d.0.number))
     (λ hart is t. (
       (
         t.0.0.0.0,
         faults s h hart arch inst access free t.0.0.0 t.0.0.1 e (barred_by s hart access t.0.1 (rw d.1 (rw (here.0, t.1.0) refl)))
-            ∙ ap Some (todo_without_text s hart access t.0.1 ∙ todo_unmet s hart access d.0 d.1 here.0 may t.1.0),
+            ∙ ap Some (todo_without_text s hart access t.0.1 ∙ todo_sync s hart access d.0 d.1 here.0 may t.1.0),
       ),
       t.1.1,
     )) (both (slice_get s.harts h) _ _ (both (slice_get s.harts h) _ _ (both (slice_get s.harts h) _ _ ready kept) text) u) in
-    (subst (λ (n : ℕ). OfHart s h (λ hart. IsToDo s h hart (Exactly (events.Sync hart.generation n) ∷ []) × (met ≡ with_met s.met hart.generation n))) (sym d.2.0) asks, unmet.1)
+    (subst (λ (n : ℕ). OfHart s h (λ hart. IsToDo s h hart (Exactly (events.Sync hart.generation n) ∷ []) × (met ≡ with_met s.met hart.generation n))) (sym d.2.0) asks, page_to_sync.1)
 
 -- what is met then has been met
 pub meets_now : (s new : FlatState) (h generation page : ℕ) → OfHart s h (λ hart. generation ≡ hart.generation) → new.harts ≡ s.harts → new.met ≡ with_met s.met generation page → OfHart new h (λ hart. has_met new.met hart.generation page ≡ true)
@@ -213,18 +212,18 @@ reads_text s h va width value hart access None a w e = absurd (cc)
 reads_text s h va width value hart access (Some page) a w e = rw (a, w) (cc)
 
 pub text_looks : (s : FlatState) (h value : ℕ) (arch : ArchState) (operand : Operand) (reserving : Bool) → IsLoad arch operand reserving → InAccess s h arch operand.inst
-    → OfHart s h (λ hart. option_map (λ (page : PageValue). number_in page.words (operand.va % 4096) operand.width) (page_in (text_of s hart.generation) (page_of operand.va)) ≡ Some value)
+    → OfHart s h (λ hart. option_map (λ (page : PageValue). number_in page.words (operand.va % 4096) operand.width) (page_in (generation_text s hart.generation) (page_of operand.va)) ≡ Some value)
     → OfHart s h (λ hart. (hart.life ≡ Running) × MayLook s h hart operand.va operand.width value)
 text_looks s h value arch operand reserving load ready read =
     each (slice_get s.harts h)
-    (λ (hart : HartState). IsTrying arch operand.inst hart × (option_map (λ (page : PageValue). number_in page.words (operand.va % 4096) operand.width) (page_in (text_of s hart.generation) (page_of operand.va)) ≡ Some value))
+    (λ (hart : HartState). IsTrying arch operand.inst hart × (option_map (λ (page : PageValue). number_in page.words (operand.va % 4096) operand.width) (page_in (generation_text s hart.generation) (page_of operand.va)) ≡ Some value))
     (λ (hart : HartState). (hart.life ≡ Running) × MayLook s h hart operand.va operand.width value)
     (λ hart is t. (
       t.0.0,
       (
         accessed arch operand.inst hart (load_at operand) t.0 (load_access arch operand reserving load),
         t.0.3,
-        reads_text s h operand.va operand.width value hart (load_at operand) (text_page s hart (load_at operand)) refl refl t.1,
+        reads_text s h operand.va operand.width value hart (load_at operand) (accessed_text s hart (load_at operand)) refl refl t.1,
       ),
     )) (both (slice_get s.harts h) _ _ ready read)
 
@@ -237,7 +236,7 @@ free_looks s h value arch operand reserving found free load ready found_is near 
     let value_is : value ≡ number_in d.0.words (operand.va % 4096) operand.width = subst (λ (o : Option PageState). IfSome o (λ page. value ≡ number_in page.words (operand.va % 4096) operand.width)) d.1 read in
     let low : nat_lt d.0.writes s.limits.last_writes ≡ true = is_below (nat_lt d.0.writes s.limits.last_writes) (sym below ∙ d.2.4) in
     subst (λ (v : ℕ). OfHart s h (λ hart. (hart.life ≡ Running) × MayLook s h hart operand.va operand.width v)) (sym value_is)
-    (each (slice_get s.harts h) (λ (hart : HartState). IsTrying arch operand.inst hart × ((page_in (text_of s hart.generation) (page_of operand.va) ≡ None) × (has_met s.met hart.generation found.page ≡ true)))
+    (each (slice_get s.harts h) (λ (hart : HartState). IsTrying arch operand.inst hart × ((page_in (generation_text s hart.generation) (page_of operand.va) ≡ None) × (has_met s.met hart.generation found.page ≡ true)))
     (λ (hart : HartState). (hart.life ≡ Running) × MayLook s h hart operand.va operand.width (number_in d.0.words (operand.va % 4096) operand.width))
     (λ hart is t. (
       t.0.0,
@@ -253,9 +252,9 @@ pub last_takes : (s : FlatState) (h : ℕ) (arch : ArchState) (operand : Operand
     → IsNear s h operand.va found.page → found.last ≡ true → OfHart s h (λ hart. (hart.life ≡ Running) × MayTake s hart (access_in hart) found.page)
 last_takes s h arch operand reserving found free load ready found_is near last =
     let d = some_and (data_in s.pages (page_of operand.va)) _ found_is in
-    let number : found.page ≡ page_of operand.va = d.2.0 ∙ found_number s.pages (page_of operand.va) d.0 d.1 in
+    let number : found.page ≡ page_of operand.va = d.2.0 ∙ data_number s.pages (page_of operand.va) d.0 d.1 in
     let high : nat_lt d.0.writes s.limits.last_writes ≡ false = not_last (nat_lt d.0.writes s.limits.last_writes) (sym last ∙ d.2.4) in
-    each (slice_get s.harts h) (λ (hart : HartState). IsTrying arch operand.inst hart × ((page_in (text_of s hart.generation) (page_of operand.va) ≡ None) × (has_met s.met hart.generation found.page ≡ true)))
+    each (slice_get s.harts h) (λ (hart : HartState). IsTrying arch operand.inst hart × ((page_in (generation_text s hart.generation) (page_of operand.va) ≡ None) × (has_met s.met hart.generation found.page ≡ true)))
     (λ (hart : HartState). (hart.life ≡ Running) × MayTake s hart (access_in hart) found.page)
     (λ hart is t. (
       t.0.0,
@@ -272,9 +271,9 @@ pub write_takes : (s : FlatState) (h : ℕ) (arch : ArchState) (operand : Operan
     → IsNear s h operand.va found.page → found.write ≡ true → WillWrite s h operand write true → OfHart s h (λ hart. (hart.life ≡ Running) × MayTake s hart (access_in hart) found.page)
 write_takes s h arch operand write found free store ready found_is near right will =
     let d = some_and (data_in s.pages (page_of operand.va)) _ found_is in
-    let number : found.page ≡ page_of operand.va = d.2.0 ∙ found_number s.pages (page_of operand.va) d.0 d.1 in
+    let number : found.page ≡ page_of operand.va = d.2.0 ∙ data_number s.pages (page_of operand.va) d.0 d.1 in
     each (slice_get s.harts h)
-    (λ (hart : HartState). (IsTrying arch operand.inst hart × ((page_in (text_of s hart.generation) (page_of operand.va) ≡ None) × (has_met s.met hart.generation found.page ≡ true)))
+    (λ (hart : HartState). (IsTrying arch operand.inst hart × ((page_in (generation_text s hart.generation) (page_of operand.va) ≡ None) × (has_met s.met hart.generation found.page ≡ true)))
     × IfSome (data_in s.pages (page_of operand.va)) (λ page. true ≡ takes_for (Some (store_want operand write)) s hart (store_at operand) page))
     (λ (hart : HartState). (hart.life ≡ Running) × MayTake s hart (access_in hart) found.page)
     (λ hart is t. (
@@ -295,7 +294,7 @@ pub record IsTaken (s new : FlatState) (h va number : ℕ) : Type 0 where
 pub taken : (s new : FlatState) (h va : ℕ) (found : Found) → IsFound s (page_of va) found → data_in new.pages found.page ≡ option_map (taken_by h) (data_in s.pages found.page) → IsTaken s new h va found.page
 taken s new h va found is page =
     let d = some_and (data_in s.pages (page_of va)) _ is in
-    let number : found.page ≡ page_of va = d.2.0 ∙ found_number s.pages (page_of va) d.0 d.1 in
+    let number : found.page ≡ page_of va = d.2.0 ∙ data_number s.pages (page_of va) d.0 d.1 in
     let there : data_in new.pages (page_of va) ≡ option_map (taken_by h) (data_in s.pages (page_of va)) = subst (λ (n : ℕ). data_in new.pages n ≡ option_map (taken_by h) (data_in s.pages n)) number page in
     record { page = d.0; number_is = number; old_page = d.1; new_page = there ∙ ap (option_map (taken_by h)) d.1 }
 
@@ -310,9 +309,9 @@ pub taken_looks : (s new : FlatState) (h value : ℕ) (arch : ArchState) (operan
 taken_looks s new h value arch operand reserving found load ready is near harts gens page read =
     let t = taken s new h operand.va found is page in
     let value_is : value ≡ number_in t.page.words (operand.va % 4096) operand.width = subst (λ (o : Option PageState). IfSome o (λ page. value ≡ number_in page.words (operand.va % 4096) operand.width)) t.old_page read in
-    let text : OfHart new h (λ hart. (page_in (text_of new hart.generation) (page_of operand.va) ≡ None) × (has_met s.met hart.generation found.page ≡ true)) = rw (harts, gens) near in
+    let text : OfHart new h (λ hart. (page_in (generation_text new hart.generation) (page_of operand.va) ≡ None) × (has_met s.met hart.generation found.page ≡ true)) = rw (harts, gens) near in
     subst (λ (v : ℕ). OfHart new h (λ hart. (hart.life ≡ Running) × MayLook new h hart operand.va operand.width v)) (sym value_is)
-    (each (slice_get new.harts h) (λ (hart : HartState). IsTrying arch operand.inst hart × ((page_in (text_of new hart.generation) (page_of operand.va) ≡ None) × (has_met s.met hart.generation found.page ≡ true)))
+    (each (slice_get new.harts h) (λ (hart : HartState). IsTrying arch operand.inst hart × ((page_in (generation_text new hart.generation) (page_of operand.va) ≡ None) × (has_met s.met hart.generation found.page ≡ true)))
     (λ (hart : HartState). (hart.life ≡ Running) × MayLook new h hart operand.va operand.width (number_in t.page.words (operand.va % 4096) operand.width))
     (λ hart there f. (
       f.0.0,
@@ -371,7 +370,7 @@ swap_may s h page value old new op arch operand store ready held read made =
         holding,
         t.3,
         t.4,
-        there_held (data_page s (store_at operand)) h (λ page. old ≡ number_in page.words (operand.va % 4096) operand.width) holding read,
+        there_held (accessed_data s (store_at operand)) h (λ page. old ≡ number_in page.words (operand.va % 4096) operand.width) holding read,
         ap (λ (w : Option Want). swap_of w old) (wanted arch operand.inst hart t.1 t.2 ∙ ap Some store.0) ∙ ap Some (sym made),
       ),
     )) ready
@@ -426,7 +425,7 @@ idle_misses s h arch operand write found free store ready found_is near right wi
     let d = some_and (data_in s.pages (page_of operand.va)) _ found_is in
     let here = found_free s.pages (page_of operand.va) d.0 free d.1 in
     each (slice_get s.harts h)
-    (λ (hart : HartState). (IsTrying arch operand.inst hart × ((page_in (text_of s hart.generation) (page_of operand.va) ≡ None) × (has_met s.met hart.generation found.page ≡ true)))
+    (λ (hart : HartState). (IsTrying arch operand.inst hart × ((page_in (generation_text s hart.generation) (page_of operand.va) ≡ None) × (has_met s.met hart.generation found.page ≡ true)))
     × IfSome (data_in s.pages (page_of operand.va)) (λ page. false ≡ takes_for (Some (store_want operand write)) s hart (store_at operand) page))
     (λ (hart : HartState). (hart.life ≡ Running) × MayMiss s h hart (access_in hart) operand.va)
     (λ hart there t.

@@ -10,28 +10,23 @@ use Rattle.wf_flat.specs.declared.event.Event.{Event}
 use Rattle.wf_flat.specs.declared.event.Event.TheVariants.{Fetch, End, Enter, Sync}
 use Rattle.wf_flat.specs.declared.event.Entry.{Entry}
 use Rattle.wf_flat.specs.State.{FlatState, HartState, PageState}
-use Rattle.wf_flat.specs.Lists.{changed_at, changed_by, others_changed}
+use Rattle.wf_flat.specs.Lists.{changed_at, changed_by}
 use Rattle.wf_flat.specs.declared.state.Stage.TheVariants.{Here}
-use Rattle.wf_flat.specs.Memory.{page_of}
+use Rattle.wf_outside.specs.Pages.{page_of}
 use Rattle.wf_flat.specs.Ordered.{IsOrdered}
-use Rattle.wf_flat.specs.Accesses.{Access, holds, held_by}
+use Rattle.wf_flat.specs.Serving.{held_by}
+use Rattle.wf_flat.specs.Accesses.{Access, holds}
 use Rattle.wf_flat.specs.Steps.{OfHart, MayAct, access_in, arch_after, ask_of, flat_after, change_hart, change_page, leave_hart, note_page, noted, is_inside, without, fetched_with, ended, answered, given_back, give_back, give_back_by, give_back_of}
 use Rattle.wf_flat.specs.Calls.{Settling, Doing, Todo, Exactly, IsNext, todo_left, todo_by, closes_call, call_behind}
 use Rattle.wf_flat.specs.Legal.{Moment, Allows, IsLegal, after, call_after, end_of, at_rest}
 use Rattle.wf_flat.specs.Follows.{IsUnit, ends_unit}
 use Rattle.wf_step.specs.Stepping.{IsResting, IsActing, IsSingle, IsSettled, AllBut, IsAt, IsToDo, IsDone, IsOpen, Begins, Continues}
-use Rattle.wf_step.proofs.JournalLemmas.{legal-append, end_of-append}
+use Rattle.wf_flat.proofs.JournalLemmas.{legal-append, end_of-append, self_inside}
+use Rattle.wf_flat.proofs.ListLemmas.{some_and, and_some, changed_next, length_changed, others_alone}
+use Rattle.wf_flat.proofs.ChangeLemmas.{same_ordered}
 
 abbrev pub entry : ℕ → Event → Entry
 entry h event = record { actor = Hart h; event = event }
-
--- what is there, with what holds of it
-pub some_and : {A : Type 0} (o : Option A) (P : A → Type 0) → IsSomeAnd o P → (x : A) × (o ≡ Some x) × P x
-some_and None P h = absurd h
-some_and (Some x) P h = (x, refl, h)
-
-pub and_some : {A : Type 0} (o : Option A) (P : A → Type 0) (x : A) → o ≡ Some x → P x → IsSomeAnd o P
-and_some {A = A} o P x e h = subst (λ (p : Option A). IsSomeAnd p P) (sym e) h
 
 -- two things that hold of it, and what follows from one
 pub both : {A : Type 0} (o : Option A) (P Q : A → Type 0) → IsSomeAnd o P → IsSomeAnd o Q → IsSomeAnd o (λ x. P x × Q x)
@@ -52,18 +47,8 @@ pub allowed_outside : (m : Moment) (h : ℕ) (e : Event) → m.flat.inside ≡ N
 allowed_outside m h e rest p =
     subst (λ (b : Bool). MatchBool b (IsNext (todo_left m.flat (Hart h) m.call) e) (MayAct m.flat (Hart h) e)) (sym (ap (λ (i : Option Actor). is_inside i (Hart h)) rest)) p
 
-self_inside : (h : ℕ) → is_inside (Some (Hart h)) (Hart h) ≡ true
-self_inside h = grind (arith, nat_tests)
-
 pub left : (h : ℕ) → without (Some (Hart h)) (Hart h) ≡ None
 left h = rw (self_inside h) refl
-
-changed_next : {A : Type 0} (x : A) (xs : List A) (i : ℕ) (f : A → A) → changed_at (x ∷ xs) (suc i) f ≡ x ∷ changed_at xs i f
-changed_next {A = A} x xs i f = by_there (slice_get xs i) refl
-  where
-    by_there : (o : Option A) → slice_get xs i ≡ o → changed_at (x ∷ xs) (suc i) f ≡ x ∷ changed_at xs i f
-    by_there None e = rw e refl
-    by_there (Some y) e = rw e refl
 
 -- what holds of all holds of all but one
 all_but : {A : Type 0} (P : A → Type 0) (at : ℕ) (xs : List A) → AllByRecursion P xs → AllBut P at xs
@@ -83,16 +68,8 @@ all_changed P g at [] all h = tt
 all_changed P g zero (x ∷ xs) all h = (h x, all)
 all_changed P g (suc at) (x ∷ xs) all h = rw (changed_next x xs at g) (all.0, all_changed P g at xs all.1 h)
 
-ordered_same : (s new : FlatState) → new.pages ≡ s.pages → new.met ≡ s.met → IsOrdered s → IsOrdered new
-ordered_same s new p m o = record { pages = rw p o.pages; met = rw m o.met }
-
 single_same : (s new : FlatState) → length new.harts ≡ length s.harts → new.pages ≡ s.pages → new.met ≡ s.met → IsSingle s → IsSingle new
-single_same s new n p m o = record { alone = n ∙ o.alone; ordered = ordered_same s new p m o.ordered }
-
-pub length_changed : {A : Type 0} (f : A → A) (xs : List A) (i : ℕ) → length (changed_at xs i f) ≡ length xs
-length_changed f [] i = refl
-length_changed f (x ∷ xs) zero = refl
-length_changed f (x ∷ xs) (suc i) = rw (changed_next x xs i f) (ap suc (length_changed f xs i))
+single_same s new n p m o = record { alone = n ∙ o.alone; ordered = same_ordered s new p m o.ordered }
 
 -- a page that no hart but this one, if any, holds
 abbrev pub IsOwned : Option ℕ → PageState → Type 0
@@ -139,7 +116,7 @@ no_try_of (x ∷ xs) (suc h) hart all is = no_try_of xs h hart all.1 is
 
 -- a unit that has not begun
 pub begins : (s : FlatState) (before : List Entry) (h : ℕ) → Begins s before s before h
-begins s before h = record { made = []; noted = sym (append-nil before); legal = tt; reached = refl; open_yet = tt }
+begins s before h = record { made = []; appended = sym (append-nil before); legal = tt; reached = refl; open_yet = tt }
 
 unit_join : (h : ℕ) (es fs : List Entry) → IsOpen h es → IsUnit h fs → IsUnit h (es ++ fs)
 unit_join h [] fs o u = u
@@ -155,7 +132,7 @@ pub goes_on : (s mid new : FlatState) (before now later : List Entry) (h : ℕ) 
 goes_on s mid new before now later h made b l r o e =
     record {
       made = b.made ++ made;
-      noted = e ∙ ap (λ (xs : List Entry). xs ++ made) b.noted ∙ append_assoc before b.made made;
+      appended = e ∙ ap (λ (xs : List Entry). xs ++ made) b.appended ∙ append_assoc before b.made made;
       legal = legal-append (at_rest s) b.made made b.legal (rw (← b.reached) l);
       reached = r ∙ ap (λ (m : Moment). end_of m made) b.reached ∙ sym (end_of-append (at_rest s) b.made made);
       open_yet = open_join h b.made made b.open_yet o;
@@ -166,7 +143,7 @@ pub ends : (s mid new : FlatState) (before now later : List Entry) (h : ℕ) (ma
 ends s mid new before now later h made b l r u e =
     record {
       made = b.made ++ made;
-      noted = e ∙ ap (λ (xs : List Entry). xs ++ made) b.noted ∙ append_assoc before b.made made;
+      appended = e ∙ ap (λ (xs : List Entry). xs ++ made) b.appended ∙ append_assoc before b.made made;
       legal = legal-append (at_rest s) b.made made b.legal (rw (← b.reached) l);
       reached = r ∙ ap (λ (m : Moment). end_of m made) b.reached ∙ sym (end_of-append (at_rest s) b.made made);
       fits = unit_join h b.made made b.open_yet u;
@@ -191,8 +168,8 @@ fetch_made s mid new before now later h pc word b t ready n e =
 -- an event outside that ends no unit
 pub open_made : (s mid new : FlatState) (before now later : List Entry) (h : ℕ) (e : Event) → Begins s before mid now h → mid.inside ≡ None → MayAct mid (Hart h) e → ends_unit e ≡ false
     → after (at_rest mid) (Hart h) e ≡ at_rest (flat_after mid (Hart h) e) → new ≡ flat_after mid (Hart h) e → later ≡ now ++ entry h e ∷ [] → Begins s before new later h
-open_made s mid new before now later h e b inside may unended step n noted =
-    goes_on s mid new before now later h (entry h e ∷ []) b (allowed_outside (at_rest mid) h e inside may, tt) (ap at_rest n ∙ sym step) ((refl, unended), tt) noted
+open_made s mid new before now later h e b inside may unended step n appended =
+    goes_on s mid new before now later h (entry h e ∷ []) b (allowed_outside (at_rest mid) h e inside may, tt) (ap at_rest n ∙ sym step) ((refl, unended), tt) appended
 
 -- an end outside
 pub end_made : (s mid new : FlatState) (before now later : List Entry) (h : ℕ) (held : Option ℕ) (next : ArchState) → Begins s before mid now h → mid.inside ≡ None → IsDone mid h held next
@@ -308,13 +285,6 @@ pub fetch_acts : (s new : FlatState) (h pc word : ℕ) → IsActing s h None →
 fetch_acts s new h pc word t n =
     acts_on s new h None (fetched_with word) t (ap (λ (f : FlatState). f.inside) n ∙ t.no_one) (ap (λ (f : FlatState). f.harts) n) (ap (λ (f : FlatState). f.pages) n) (ap (λ (f : FlatState). f.met) n)
 
--- the hart of a machine of one notes nothing
-pub others_alone : (f : HartState → HartState) (harts : List HartState) (h : ℕ) → length harts ≡ 1 → h < length harts → others_changed harts h f ≡ harts
-others_alone f [] h e lt = absurd (omega arith)
-others_alone f (hart ∷ []) zero e lt = refl
-others_alone f (hart ∷ []) (suc h) e lt = absurd (omega arith)
-others_alone f (hart ∷ other ∷ harts) h e lt = absurd (omega arith)
-
 pub there_by : {A : Type 0} (xs : List A) (h : ℕ) (x : A) → slice_get xs h ≡ Some x → h < length xs
 there_by [] h x e = absurd (cc)
 there_by (y ∷ ys) zero x e = omega arith
@@ -355,7 +325,7 @@ gives_of s h held hart (Some access) lt t e = by_test (holds s h access) e
         → GivesBack s h (if b then note_page (change_page s (page_of access.va) (given_back s.limits.last_writes hart.put)) h (page_of access.va) else s)
     by_test true e = record {
       inside = refl;
-      harts = others_alone (noted (page_of access.va)) s.harts h t.single.alone lt;
+      harts = others_alone s.harts h (noted (page_of access.va)) t.single.alone lt;
       free = given_free (page_of access.va) s.limits.last_writes hart.put s.pages (subst (λ (o : Option ℕ). AllByRecursion (IsOwned o) s.pages) e t.pages);
     }
     by_test false e = record { inside = refl; harts = refl; free = owned_free s.pages (subst (λ (o : Option ℕ). AllByRecursion (IsOwned o) s.pages) e t.pages) }

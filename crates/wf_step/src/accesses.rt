@@ -1,28 +1,31 @@
 //! Accesses, entry by entry, of a machine of one hart.
-ghost use Rattle.std.specs.Prelude.{◌≡◌, ◌<◌, ◌≤◌, ◌⊎◌, ◌+◌, ◌%◌, ◌^◌, ◌*◌, ◌∷◌, [], ℕ, List, Option, None, Some, IfOk, IfSome, length, map, slice_get, vec_len, vec_capacity, false, true};
+ghost use Rattle.std.specs.Prelude.{◌≡◌, ◌<◌, ◌≤◌, ◌+◌, ◌%◌, ◌^◌, ◌*◌, ◌∷◌, [], ℕ, List, Option, None, Some, IfOk, IfSome, length, map, slice_get, vec_len, vec_capacity, false, true};
 ghost use Rattle.std.specs.Option.{option_map};
 ghost use Rattle.rv_inst.specs.Spelling.{IsSpelled};
 ghost use Rattle.rv_inst.specs.Meanings.{want_of};
+ghost use Rattle.wf_outside.specs.declared.sizes.TheConstants.{PAGE_SIZE};
 ghost use Rattle.wf_flat.specs.declared.event.Event.TheVariants as events;
 ghost use Rattle.wf_flat.specs.declared.event.Entry.{Entry as FlatEntry};
 ghost use Rattle.wf_flat.specs.declared.state.Life.TheVariants.{Running};
 ghost use Rattle.wf_flat.specs.State.{FlatState, PageState};
-ghost use Rattle.wf_flat.specs.Lists.{IsRising};
-ghost use Rattle.wf_flat.specs.Memory.{IsPlace, page_of, page_in, data_in, number_in, has_met, with_met, met_key};
-ghost use Rattle.wf_flat.specs.Accesses.{access_of, held_by, has_reserved as reserved, stands as standing, text_of};
+ghost use Rattle.wf_outside.specs.Lists.{IsRising};
+ghost use Rattle.wf_outside.specs.Pages.{page_of};
+ghost use Rattle.wf_flat.specs.Memory.{page_in, data_in, number_in, has_met, with_met, met_key};
+ghost use Rattle.wf_flat.specs.Serving.{held_by, IsPlace, IsWidth};
+ghost use Rattle.wf_flat.specs.Accesses.{access_of, has_reserved as reserved, stands as standing, generation_text};
 ghost use Rattle.wf_flat.specs.Ordered.{IsOrdered};
 ghost use Rattle.wf_flat.specs.Steps.{OfHart, MayLook, MayTake, MayMiss, access_in, want_in, reserves, is_conditional, is_lost as lost, taken_by, flat_after};
 ghost use Rattle.wf_flat.specs.Calls.{Exactly};
 ghost use Rattle.wf_flat.specs.Follows.{IsUnit};
-ghost use Rattle.wf_step.specs.Stepping.{IsResting, IsActing, InAccess, IsLoad, IsStore, IsFound, IsPlaceOf, IsNear, IsToDo, IsUnmet, IsMeeting, IsSame, WillReach, WillWrite, Begins, Continues, load_at, store_at, store_want};
+ghost use Rattle.wf_step.specs.Stepping.{IsResting, IsActing, InAccess, IsLoad, IsStore, IsFound, IsPlaceOf, IsNear, IsToDo, IsPageToSync, IsMeeting, IsSame, WillReach, WillWrite, Begins, Continues, load_at, store_at, store_want};
 
-use crate::causes::{LOAD_PAGE_FAULT, STORE_PAGE_FAULT};
-use crate::deeds::{Operand, Write, finished};
-use crate::stepping::{end, note, trap};
+use crate::actions::{Operand, Write, finished};
+use crate::stepping::{append, end, trap};
 use rv_alu::{AmoOp, amo};
 use rv_inst::Arch;
+use rv_inst::causes::{LOAD_PAGE_FAULT, STORE_PAGE_FAULT};
 use wf_flat::{Actor, Entry, Event, Flat, Reservation};
-use wf_outside::Memory;
+use wf_outside::{Memory, PAGE_SIZE};
 
 /// What an access finds in the data.
 #[derive(Clone, Copy, Debug, PartialEq, Eq)]
@@ -42,32 +45,35 @@ pub struct Found {
 }
 
 // The generation of a hart.
-fn generation_of(flat: &Flat, h: u8) -> u32
-    requires { h < length flat.now.harts }
-    ensures { OfHart flat.now h (λ hart. result ≡ hart.generation) }
+fn generation_of(flat: &Flat, hart: u8) -> u32
+    requires { hart < length flat.now.harts }
+    ensures { OfHart flat.now hart (λ state. result ≡ state.generation) }
 {
-    let hart = &flat.harts[h as usize];
-    hart.generation
+    let state = &flat.harts[hart as usize];
+    state.generation
 }
 
 // The bytes at an address of a hart's own text, if they are text.
-fn text_value(flat: &Flat, h: u8, va: u64, width: u8) -> Option<u64>
-    requires there { h < length flat.now.harts }
+fn text_value(flat: &Flat, hart: u8, va: u64, width: u8) -> Option<u64>
+    requires there { hart < length flat.now.harts }
     requires place { IsPlace va width }
-    ensures { OfHart flat.now h (λ hart. result ≡ option_map (λ page. number_in page.words (va % 4096) width) (page_in (text_of flat.now hart.generation) (page_of va))) }
+    ensures { OfHart flat.now hart
+        (λ state. result
+        ≡ option_map (λ page. number_in page.words (va % PAGE_SIZE) width)
+        (page_in (generation_text flat.now state.generation) (page_of va))) }
 {
-    let hart = &flat.harts[h as usize];
-    flat.text_number(hart.generation, va, width)
+    let state = &flat.harts[hart as usize];
+    flat.text_number(state.generation, va, width)
 }
 
 // What an access of a hart finds in the data.
-fn found_at(flat: &Flat, h: u8, va: u64) -> Option<Found>
-    requires there { h < length flat.now.harts }
+fn found_at(flat: &Flat, hart: u8, va: u64) -> Option<Found>
+    requires there { hart < length flat.now.harts }
     requires ordered { IsOrdered flat.now }
-    ensures { IsPlaceOf flat.now h va result }
+    ensures { IsPlaceOf flat.now hart va result }
 {
-    let page = flat.data_page(va / 4096)?;
-    let generation = flat.harts[h as usize].generation;
+    let page = flat.data_page(va / PAGE_SIZE)?;
+    let generation = flat.harts[hart as usize].generation;
     Some(Found {
         page: page.number,
         write: page.write,
@@ -82,28 +88,29 @@ fn found_at(flat: &Flat, h: u8, va: u64) -> Option<Found>
 fn data_value(flat: &Flat, va: u64, width: u8) -> u64
     requires place { IsPlace va width }
     requires ordered { IsOrdered flat.now }
-    ensures { IfSome (data_in flat.now.pages (page_of va)) (λ page. result ≡ number_in page.words (va % 4096) width) }
+    ensures { IfSome (data_in flat.now.pages (page_of va))
+        (λ page. result ≡ number_in page.words (va % PAGE_SIZE) width) }
 {
-    match flat.data_page(va / 4096) {
-        Some(page) => page.number_at(va % 4096, width),
+    match flat.data_page(va / PAGE_SIZE) {
+        Some(page) => page.number_at(va % PAGE_SIZE, width),
         None => 0,
     }
 }
 
 /// What the generations will have met where a hart's access is to a page that its own has not met; `None`
 /// where there is no such page, or it has met it. It takes memory.
-pub fn unmet(flat: &Flat, h: u8, va: u64) -> Result<Option<Vec<(u32, u32)>>, Memory>
-    requires there { h < length flat.now.harts }
+pub fn page_to_sync(flat: &Flat, hart: u8, va: u64) -> Result<Option<Vec<(u32, u32)>>, Memory>
+    requires there { hart < length flat.now.harts }
     requires ordered { IsOrdered flat.now }
-    ensures { IfOk result (λ met. IsUnmet flat.now h va (option_map (λ v. v.items) met)) }
+    ensures { IfOk result (λ met. IsPageToSync flat.now hart va (option_map (λ v. v.items) met)) }
 {
-    let Some(found) = found_at(flat, h, va) else {
+    let Some(found) = found_at(flat, hart, va) else {
         return Ok(None);
     };
     if found.met {
         return Ok(None);
     }
-    let generation = flat.harts[h as usize].generation;
+    let generation = flat.harts[hart as usize].generation;
     Ok(Some(flat.met_with(generation, found.page)?))
 }
 
@@ -111,64 +118,72 @@ pub fn unmet(flat: &Flat, h: u8, va: u64) -> Result<Option<Vec<(u32, u32)>>, Mem
 fn sync(
     flat: &mut Flat,
     journal: &mut Vec<Entry>,
-    h: u8,
+    hart: u8,
     generation: u32,
     page: u32,
     met: Vec<(u32, u32)>,
 )
     requires room { vec_len journal.old + 1 < vec_capacity journal.old }
-    requires there { h < length flat.old.harts }
-    requires acts { IsActing flat.old h None }
+    requires there { hart < length flat.old.harts }
+    requires acts { IsActing flat.old hart None }
     requires met { met.items ≡ with_met flat.old.met generation page }
     requires rising { IsRising (map met_key met.items) }
-    requires ready { OfHart flat.old h (λ hart. IsToDo flat.old h hart (Exactly (events.Sync generation page) ∷ [])) }
-    ensures made { (s : FlatState) (before : List FlatEntry) → Begins s before flat.old journal.old.items h → Begins s before flat.new journal.new.items h }
-    ensures acts { IsActing flat.new h None }
+    requires ready { OfHart flat.old hart
+        (λ state. IsToDo flat.old hart state (Exactly (events.Sync generation page) ∷ [])) }
+    ensures made { (s : FlatState) (before : List FlatEntry)
+        → Begins s before flat.old journal.old.items hart
+        → Begins s before flat.new journal.new.items hart }
+    ensures acts { IsActing flat.new hart None }
     ensures same { IsSame flat.old flat.new }
     ensures met { flat.new.met ≡ with_met flat.old.met generation page }
     ensures len { vec_len journal.new ≡ vec_len journal.old + 2 }
     ensures capacity { vec_capacity journal.new ≡ vec_capacity journal.old }
 {
-    flat.enter(Actor::Hart(h));
-    flat.sync(h, met);
-    note(journal, h, Event::Enter);
-    note(journal, h, Event::Sync { generation, page });
+    flat.enter(Actor::Hart(hart));
+    flat.sync(hart, met);
+    append(journal, hart, Event::Enter);
+    append(journal, hart, Event::Sync { generation, page });
 }
 
 // A hart looks at bytes, and reserves them where it is in a load-reserved.
-fn look(flat: &mut Flat, h: u8, operand: Operand, reserving: bool, value: u64)
+fn look(flat: &mut Flat, hart: u8, operand: Operand, reserving: bool, value: u64)
     requires ordered { IsOrdered flat.old }
-    requires kind { OfHart flat.old h (λ hart. reserves (want_in hart) ≡ reserving) }
-    ensures { flat.new ≡ flat_after flat.old (Actor.Hart h) (events.Look operand.va operand.width value) }
+    requires kind { OfHart flat.old hart (λ state. reserves (want_in state) ≡ reserving) }
+    ensures { flat.new
+        ≡ flat_after flat.old (Actor.Hart hart) (events.Look operand.va operand.width value) }
 {
     if reserving {
-        flat.reserve(h, operand.va, operand.width, value);
+        flat.reserve(hart, operand.va, operand.width, value);
     } else {
-        flat.look(h, operand.va, operand.width, value);
+        flat.look(hart, operand.va, operand.width, value);
     }
 }
 
 // A page is taken.
-fn take(flat: &mut Flat, journal: &mut Vec<Entry>, h: u8, page: u32)
+fn take(flat: &mut Flat, journal: &mut Vec<Entry>, hart: u8, page: u32)
     requires room { vec_len journal.old < vec_capacity journal.old }
-    requires there { h < length flat.old.harts }
-    requires acts { IsActing flat.old h None }
-    requires may { OfHart flat.old h (λ hart. (hart.life ≡ Running) × MayTake flat.old hart (access_in hart) page) }
-    ensures made { (s : FlatState) (before : List FlatEntry) → Begins s before flat.old journal.old.items h → Begins s before flat.new journal.new.items h }
-    ensures acts { IsActing flat.new h (Some page) }
+    requires there { hart < length flat.old.harts }
+    requires acts { IsActing flat.old hart None }
+    requires may { OfHart flat.old hart
+        (λ state. (state.life ≡ Running) × MayTake flat.old state (access_in state) page) }
+    ensures made { (s : FlatState) (before : List FlatEntry)
+        → Begins s before flat.old journal.old.items hart
+        → Begins s before flat.new journal.new.items hart }
+    ensures acts { IsActing flat.new hart (Some page) }
     ensures harts { flat.new.harts ≡ flat.old.harts }
     ensures gens { flat.new.gens ≡ flat.old.gens }
-    ensures page { data_in flat.new.pages page ≡ option_map (taken_by h) (data_in flat.old.pages page) }
+    ensures page { data_in flat.new.pages page
+        ≡ option_map (taken_by hart) (data_in flat.old.pages page) }
     ensures len { vec_len journal.new ≡ vec_len journal.old + 1 }
     ensures capacity { vec_capacity journal.new ≡ vec_capacity journal.old }
 {
-    flat.take(h, page);
-    note(journal, h, Event::Take { page });
+    flat.take(hart, page);
+    append(journal, hart, Event::Take { page });
 }
 
 // The low bytes of a value, 1, 2, 4 or 8 of them.
 fn low_bytes(value: u64, width: u8) -> u64
-    requires { (width ≡ 1) ⊎ ((width ≡ 2) ⊎ ((width ≡ 4) ⊎ (width ≡ 8))) }
+    requires { IsWidth width }
     ensures { result ≡ value % 2 ^ (8 * width) }
 {
     match width {
@@ -180,21 +195,30 @@ fn low_bytes(value: u64, width: u8) -> u64
 }
 
 // A hart's generation meets the page of its access, where `met` says what will be met then.
-fn meet(flat: &mut Flat, journal: &mut Vec<Entry>, h: u8, page: u32, met: Option<Vec<(u32, u32)>>)
+fn meet(
+    flat: &mut Flat,
+    journal: &mut Vec<Entry>,
+    hart: u8,
+    page: u32,
+    met: Option<Vec<(u32, u32)>>,
+)
     requires room { vec_len journal.old + 1 < vec_capacity journal.old }
-    requires there { h < length flat.old.harts }
-    requires acts { IsActing flat.old h None }
-    requires met { IsMeeting flat.old h page (option_map (λ v. v.items) met) }
-    ensures made { (s : FlatState) (before : List FlatEntry) → Begins s before flat.old journal.old.items h → Begins s before flat.new journal.new.items h }
-    ensures acts { IsActing flat.new h None }
+    requires there { hart < length flat.old.harts }
+    requires acts { IsActing flat.old hart None }
+    requires met { IsMeeting flat.old hart page (option_map (λ v. v.items) met) }
+    ensures made { (s : FlatState) (before : List FlatEntry)
+        → Begins s before flat.old journal.old.items hart
+        → Begins s before flat.new journal.new.items hart }
+    ensures acts { IsActing flat.new hart None }
     ensures same { IsSame flat.old flat.new }
-    ensures met { OfHart flat.new h (λ hart. has_met flat.new.met hart.generation page ≡ true) }
+    ensures met { OfHart flat.new hart
+        (λ state. has_met flat.new.met state.generation page ≡ true) }
     ensures len { vec_len journal.new ≤ vec_len journal.old + 2 }
     ensures capacity { vec_capacity journal.new ≡ vec_capacity journal.old }
 {
     if let Some(met) = met {
-        let generation = generation_of(flat, h);
-        sync(flat, journal, h, generation, page, met);
+        let generation = generation_of(flat, hart);
+        sync(flat, journal, hart, generation, page, met);
     }
 }
 
@@ -202,7 +226,7 @@ fn meet(flat: &mut Flat, journal: &mut Vec<Entry>, h: u8, page: u32, met: Option
 fn read(
     flat: &mut Flat,
     journal: &mut Vec<Entry>,
-    h: u8,
+    hart: u8,
     arch: &Arch,
     operand: Operand,
     reserving: bool,
@@ -210,26 +234,36 @@ fn read(
     held: Option<u32>,
 )
     requires room { vec_len journal.old + 1 < vec_capacity journal.old }
-    requires acts { IsActing flat.old h held }
+    requires acts { IsActing flat.old hart held }
     requires load { IsLoad arch.now operand reserving }
-    requires ready { InAccess flat.old h arch.now operand.inst }
-    requires may { OfHart flat.old h (λ hart. (hart.life ≡ Running) × MayLook flat.old h hart operand.va operand.width value) }
-    requires held { held ≡ held_by flat.old h (Some (load_at operand)) }
-    ensures made { (s : FlatState) (before : List FlatEntry) → Begins s before flat.old journal.old.items h → Continues s before flat.new journal.new.items (IsUnit h) }
+    requires ready { InAccess flat.old hart arch.now operand.inst }
+    requires may { OfHart flat.old hart
+        (λ state. (state.life ≡ Running)
+        × MayLook flat.old hart state operand.va operand.width value) }
+    requires held { held ≡ held_by flat.old hart (Some (load_at operand)) }
+    ensures made { (s : FlatState) (before : List FlatEntry)
+        → Begins s before flat.old journal.old.items hart
+        → Continues s before flat.new journal.new.items (IsUnit hart) }
     ensures rests { IsResting flat.new }
     ensures harts { length flat.new.harts ≡ length flat.old.harts }
 {
-    look(flat, h, operand, reserving, value);
-    note(
+    look(flat, hart, operand, reserving, value);
+    append(
         journal,
-        h,
+        hart,
         Event::Look {
             va: operand.va,
             width: operand.width,
             value,
         },
     );
-    end(flat, journal, h, held, finished(arch, operand.inst, value));
+    end(
+        flat,
+        journal,
+        hart,
+        held,
+        finished(arch, operand.inst, value),
+    );
 }
 
 // Bytes of a page of data that the hart's generation has met are looked at, and the try ends. At the last
@@ -237,29 +271,31 @@ fn read(
 fn read_page(
     flat: &mut Flat,
     journal: &mut Vec<Entry>,
-    h: u8,
+    hart: u8,
     arch: &Arch,
     operand: Operand,
     reserving: bool,
     found: Found,
 )
     requires room { vec_len journal.old + 2 < vec_capacity journal.old }
-    requires acts { IsActing flat.old h None }
+    requires acts { IsActing flat.old hart None }
     requires load { IsLoad arch.now operand reserving }
-    requires ready { InAccess flat.old h arch.now operand.inst }
+    requires ready { InAccess flat.old hart arch.now operand.inst }
     requires found { IsFound flat.old (page_of operand.va) found }
-    requires near { IsNear flat.old h operand.va found.page }
-    ensures made { (s : FlatState) (before : List FlatEntry) → Begins s before flat.old journal.old.items h → Continues s before flat.new journal.new.items (IsUnit h) }
+    requires near { IsNear flat.old hart operand.va found.page }
+    ensures made { (s : FlatState) (before : List FlatEntry)
+        → Begins s before flat.old journal.old.items hart
+        → Continues s before flat.new journal.new.items (IsUnit hart) }
     ensures rests { IsResting flat.new }
     ensures harts { length flat.new.harts ≡ length flat.old.harts }
 {
     let value = data_value(flat, operand.va, operand.width);
     if found.last {
-        take(flat, journal, h, found.page);
+        take(flat, journal, hart, found.page);
         read(
             flat,
             journal,
-            h,
+            hart,
             arch,
             operand,
             reserving,
@@ -267,66 +303,70 @@ fn read_page(
             Some(found.page),
         );
     } else {
-        read(flat, journal, h, arch, operand, reserving, value, None);
+        read(flat, journal, hart, arch, operand, reserving, value, None);
     }
 }
 
 /// A load, or a load-reserved, of a hart in a try: its page is met where it has to be, its bytes are looked
-/// at, and the try ends; or it traps. `met` is what `unmet` gives.
+/// at, and the try ends; or it traps. `met` is what `page_to_sync` gives.
 pub fn load(
     flat: &mut Flat,
     journal: &mut Vec<Entry>,
-    h: u8,
+    hart: u8,
     arch: &Arch,
     operand: Operand,
     reserving: bool,
     met: Option<Vec<(u32, u32)>>,
 )
     requires room { vec_len journal.old + 4 < vec_capacity journal.old }
-    requires acts { IsActing flat.old h None }
+    requires acts { IsActing flat.old hart None }
     requires load { IsLoad arch.now operand reserving }
-    requires ready { InAccess flat.old h arch.now operand.inst }
-    requires met { IsUnmet flat.old h operand.va (option_map (λ v. v.items) met) }
-    ensures made { (s : FlatState) (before : List FlatEntry) → Begins s before flat.old journal.old.items h → Continues s before flat.new journal.new.items (IsUnit h) }
+    requires ready { InAccess flat.old hart arch.now operand.inst }
+    requires met { IsPageToSync flat.old hart operand.va (option_map (λ v. v.items) met) }
+    ensures made { (s : FlatState) (before : List FlatEntry)
+        → Begins s before flat.old journal.old.items hart
+        → Continues s before flat.new journal.new.items (IsUnit hart) }
     ensures rests { IsResting flat.new }
     ensures harts { length flat.new.harts ≡ length flat.old.harts }
 {
-    if let Some(value) = text_value(flat, h, operand.va, operand.width) {
-        read(flat, journal, h, arch, operand, reserving, value, None);
+    if let Some(value) = text_value(flat, hart, operand.va, operand.width) {
+        read(flat, journal, hart, arch, operand, reserving, value, None);
         return;
     }
-    let Some(found) = found_at(flat, h, operand.va) else {
-        trap(flat, journal, h, LOAD_PAGE_FAULT, operand.va);
+    let Some(found) = found_at(flat, hart, operand.va) else {
+        trap(flat, journal, hart, LOAD_PAGE_FAULT, operand.va);
         return;
     };
-    meet(flat, journal, h, found.page, met);
-    read_page(flat, journal, h, arch, operand, reserving, found);
+    meet(flat, journal, hart, found.page, met);
+    read_page(flat, journal, hart, arch, operand, reserving, found);
 }
 
 // The low bytes of a value are put by a store into the page that the hart holds, and the try ends.
 fn put(
     flat: &mut Flat,
     journal: &mut Vec<Entry>,
-    h: u8,
+    hart: u8,
     arch: &Arch,
     operand: Operand,
     value: u64,
     page: u32,
 )
     requires room { vec_len journal.old + 1 < vec_capacity journal.old }
-    requires acts { IsActing flat.old h (Some page) }
+    requires acts { IsActing flat.old hart (Some page) }
     requires store { IsStore arch.now operand (Write.Put value) }
-    requires ready { InAccess flat.old h arch.now operand.inst }
-    requires held { Some page ≡ held_by flat.old h (Some (store_at operand)) }
-    ensures made { (s : FlatState) (before : List FlatEntry) → Begins s before flat.old journal.old.items h → Continues s before flat.new journal.new.items (IsUnit h) }
+    requires ready { InAccess flat.old hart arch.now operand.inst }
+    requires held { Some page ≡ held_by flat.old hart (Some (store_at operand)) }
+    ensures made { (s : FlatState) (before : List FlatEntry)
+        → Begins s before flat.old journal.old.items hart
+        → Continues s before flat.new journal.new.items (IsUnit hart) }
     ensures rests { IsResting flat.new }
     ensures harts { length flat.new.harts ≡ length flat.old.harts }
 {
     let low = low_bytes(value, operand.width);
-    flat.put(h, operand.va, operand.width, low);
-    note(
+    flat.put(hart, operand.va, operand.width, low);
+    append(
         journal,
-        h,
+        hart,
         Event::Put {
             va: operand.va,
             width: operand.width,
@@ -336,7 +376,7 @@ fn put(
     end(
         flat,
         journal,
-        h,
+        hart,
         Some(page),
         finished(arch, operand.inst, 0),
     );
@@ -346,26 +386,28 @@ fn put(
 fn put_if(
     flat: &mut Flat,
     journal: &mut Vec<Entry>,
-    h: u8,
+    hart: u8,
     arch: &Arch,
     operand: Operand,
     value: u64,
     page: u32,
 )
     requires room { vec_len journal.old + 1 < vec_capacity journal.old }
-    requires acts { IsActing flat.old h (Some page) }
+    requires acts { IsActing flat.old hart (Some page) }
     requires store { IsStore arch.now operand (Write.PutIf value) }
-    requires ready { InAccess flat.old h arch.now operand.inst }
-    requires held { Some page ≡ held_by flat.old h (Some (store_at operand)) }
-    ensures made { (s : FlatState) (before : List FlatEntry) → Begins s before flat.old journal.old.items h → Continues s before flat.new journal.new.items (IsUnit h) }
+    requires ready { InAccess flat.old hart arch.now operand.inst }
+    requires held { Some page ≡ held_by flat.old hart (Some (store_at operand)) }
+    ensures made { (s : FlatState) (before : List FlatEntry)
+        → Begins s before flat.old journal.old.items hart
+        → Continues s before flat.new journal.new.items (IsUnit hart) }
     ensures rests { IsResting flat.new }
     ensures harts { length flat.new.harts ≡ length flat.old.harts }
 {
     let low = low_bytes(value, operand.width);
-    flat.put_if(h, operand.va, operand.width, low);
-    note(
+    flat.put_if(hart, operand.va, operand.width, low);
+    append(
         journal,
-        h,
+        hart,
         Event::Put {
             va: operand.va,
             width: operand.width,
@@ -375,7 +417,7 @@ fn put_if(
     end(
         flat,
         journal,
-        h,
+        hart,
         Some(page),
         finished(arch, operand.inst, 0),
     );
@@ -386,7 +428,7 @@ fn put_if(
 fn swap(
     flat: &mut Flat,
     journal: &mut Vec<Entry>,
-    h: u8,
+    hart: u8,
     arch: &Arch,
     operand: Operand,
     op: AmoOp,
@@ -394,20 +436,22 @@ fn swap(
     page: u32,
 )
     requires room { vec_len journal.old + 1 < vec_capacity journal.old }
-    requires acts { IsActing flat.old h (Some page) }
+    requires acts { IsActing flat.old hart (Some page) }
     requires store { IsStore arch.now operand (Write.Swap op value) }
-    requires ready { InAccess flat.old h arch.now operand.inst }
-    requires held { Some page ≡ held_by flat.old h (Some (store_at operand)) }
-    ensures made { (s : FlatState) (before : List FlatEntry) → Begins s before flat.old journal.old.items h → Continues s before flat.new journal.new.items (IsUnit h) }
+    requires ready { InAccess flat.old hart arch.now operand.inst }
+    requires held { Some page ≡ held_by flat.old hart (Some (store_at operand)) }
+    ensures made { (s : FlatState) (before : List FlatEntry)
+        → Begins s before flat.old journal.old.items hart
+        → Continues s before flat.new journal.new.items (IsUnit hart) }
     ensures rests { IsResting flat.new }
     ensures harts { length flat.new.harts ≡ length flat.old.harts }
 {
     let old = data_value(flat, operand.va, operand.width);
     let new = amo(op, operand.width == 8, old, value);
-    flat.swap(h, operand.va, operand.width, old, new);
-    note(
+    flat.swap(hart, operand.va, operand.width, old, new);
+    append(
         journal,
-        h,
+        hart,
         Event::Swap {
             va: operand.va,
             width: operand.width,
@@ -418,68 +462,77 @@ fn swap(
     end(
         flat,
         journal,
-        h,
+        hart,
         Some(page),
         finished(arch, operand.inst, old),
     );
 }
 
 // A store-conditional misses, and the try ends.
-fn miss(flat: &mut Flat, journal: &mut Vec<Entry>, h: u8, arch: &Arch, operand: Operand)
+fn miss(flat: &mut Flat, journal: &mut Vec<Entry>, hart: u8, arch: &Arch, operand: Operand)
     requires room { vec_len journal.old + 1 < vec_capacity journal.old }
-    requires acts { IsActing flat.old h None }
+    requires acts { IsActing flat.old hart None }
     requires spelled { IsSpelled operand.inst }
-    requires ready { InAccess flat.old h arch.now operand.inst }
+    requires ready { InAccess flat.old hart arch.now operand.inst }
     requires access { access_of (Some (want_of operand.inst arch.now)) ≡ Some (store_at operand) }
     requires conditional { is_conditional (Some (want_of operand.inst arch.now)) ≡ true }
-    requires may { OfHart flat.old h (λ hart. (hart.life ≡ Running) × MayMiss flat.old h hart (access_in hart) operand.va) }
-    ensures made { (s : FlatState) (before : List FlatEntry) → Begins s before flat.old journal.old.items h → Continues s before flat.new journal.new.items (IsUnit h) }
+    requires may { OfHart flat.old hart
+        (λ state. (state.life ≡ Running)
+        × MayMiss flat.old hart state (access_in state) operand.va) }
+    ensures made { (s : FlatState) (before : List FlatEntry)
+        → Begins s before flat.old journal.old.items hart
+        → Continues s before flat.new journal.new.items (IsUnit hart) }
     ensures rests { IsResting flat.new }
     ensures harts { length flat.new.harts ≡ length flat.old.harts }
 {
-    flat.miss(h, operand.va);
-    note(journal, h, Event::Miss { va: operand.va });
-    end(flat, journal, h, None, finished(arch, operand.inst, 1));
+    flat.miss(hart, operand.va);
+    append(journal, hart, Event::Miss { va: operand.va });
+    end(flat, journal, hart, None, finished(arch, operand.inst, 1));
 }
 
 // A page of data that the hart's generation has met is taken and written, and the try ends.
 fn write_page(
     flat: &mut Flat,
     journal: &mut Vec<Entry>,
-    h: u8,
+    hart: u8,
     arch: &Arch,
     operand: Operand,
     write: Write,
     found: Found,
 )
     requires room { vec_len journal.old + 2 < vec_capacity journal.old }
-    requires acts { IsActing flat.old h None }
+    requires acts { IsActing flat.old hart None }
     requires store { IsStore arch.now operand write }
-    requires ready { InAccess flat.old h arch.now operand.inst }
+    requires ready { InAccess flat.old hart arch.now operand.inst }
     requires found { IsFound flat.old (page_of operand.va) found }
     requires right { found.write ≡ true }
-    requires near { IsNear flat.old h operand.va found.page }
-    requires takes { WillWrite flat.old h operand write true }
-    ensures made { (s : FlatState) (before : List FlatEntry) → Begins s before flat.old journal.old.items h → Continues s before flat.new journal.new.items (IsUnit h) }
+    requires near { IsNear flat.old hart operand.va found.page }
+    requires takes { WillWrite flat.old hart operand write true }
+    ensures made { (s : FlatState) (before : List FlatEntry)
+        → Begins s before flat.old journal.old.items hart
+        → Continues s before flat.new journal.new.items (IsUnit hart) }
     ensures rests { IsResting flat.new }
     ensures harts { length flat.new.harts ≡ length flat.old.harts }
 {
-    take(flat, journal, h, found.page);
+    take(flat, journal, hart, found.page);
     match write {
-        Write::Put { value } => put(flat, journal, h, arch, operand, value, found.page),
-        Write::PutIf { value } => put_if(flat, journal, h, arch, operand, value, found.page),
-        Write::Swap { op, value } => swap(flat, journal, h, arch, operand, op, value, found.page),
+        Write::Put { value } => put(flat, journal, hart, arch, operand, value, found.page),
+        Write::PutIf { value } => put_if(flat, journal, hart, arch, operand, value, found.page),
+        Write::Swap { op, value } => swap(
+            flat, journal, hart, arch, operand, op, value, found.page,
+        ),
     }
 }
 
 // Whether a write is a store-conditional's, and the hart has no reservation for its address and width.
-fn is_lost(flat: &Flat, h: u8, operand: Operand, write: Write) -> bool
-    requires { h < length flat.now.harts }
-    ensures { OfHart flat.now h (λ hart. result ≡ lost (Some (store_want operand write)) hart.reservation) }
+fn is_lost(flat: &Flat, hart: u8, operand: Operand, write: Write) -> bool
+    requires { hart < length flat.now.harts }
+    ensures { OfHart flat.now hart
+        (λ state. result ≡ lost (Some (store_want operand write)) state.reservation) }
 {
-    let hart = &flat.harts[h as usize];
+    let state = &flat.harts[hart as usize];
     match write {
-        Write::PutIf { .. } => !has_reserved(hart.reservation, operand),
+        Write::PutIf { .. } => !has_reserved(state.reservation, operand),
         Write::Put { .. } | Write::Swap { .. } => false,
     }
 }
@@ -496,21 +549,22 @@ fn has_reserved(reservation: Option<Reservation>, operand: Operand) -> bool
 
 // Whether a write to a page that was found is to be made: that of a store-conditional where its reservation
 // stands, and any other.
-fn will_write(flat: &Flat, h: u8, operand: Operand, write: Write, found: Found) -> bool
-    requires there { h < length flat.now.harts }
+fn will_write(flat: &Flat, hart: u8, operand: Operand, write: Write, found: Found) -> bool
+    requires there { hart < length flat.now.harts }
     requires found { IsFound flat.now (page_of operand.va) found }
-    ensures { WillWrite flat.now h operand write result }
+    ensures { WillWrite flat.now hart operand write result }
 {
-    let hart = &flat.harts[h as usize];
+    let state = &flat.harts[hart as usize];
     match write {
-        Write::PutIf { .. } => stands(hart.reservation, operand, found),
+        Write::PutIf { .. } => stands(state.reservation, operand, found),
         Write::Put { .. } | Write::Swap { .. } => true,
     }
 }
 
 // Whether a reservation stands for an operand on a page that was found.
 fn stands(reservation: Option<Reservation>, operand: Operand, found: Found) -> bool
-    ensures { (page : PageState) → found.birth ≡ page.birth → found.writes ≡ page.writes → result ≡ standing reservation (store_at operand) page }
+    ensures { (page : PageState) → found.birth ≡ page.birth → found.writes ≡ page.writes
+        → result ≡ standing reservation (store_at operand) page }
 {
     match reservation {
         Some(place) => {
@@ -523,64 +577,69 @@ fn stands(reservation: Option<Reservation>, operand: Operand, found: Found) -> b
 }
 
 /// A store, a store-conditional or an atomic memory operation of a hart in a try: its page is met where it
-/// has to be, taken and written, and the try ends; or it misses, or traps. `met` is what `unmet` gives, where
+/// has to be, taken and written, and the try ends; or it misses, or traps. `met` is what `page_to_sync` gives, where
 /// the write is not lost.
 pub fn store(
     flat: &mut Flat,
     journal: &mut Vec<Entry>,
-    h: u8,
+    hart: u8,
     arch: &Arch,
     operand: Operand,
     write: Write,
     met: Option<Vec<(u32, u32)>>,
 )
     requires room { vec_len journal.old + 4 < vec_capacity journal.old }
-    requires acts { IsActing flat.old h None }
+    requires acts { IsActing flat.old hart None }
     requires store { IsStore arch.now operand write }
-    requires ready { InAccess flat.old h arch.now operand.inst }
-    requires met { WillReach flat.old h operand write → IsUnmet flat.old h operand.va (option_map (λ v. v.items) met) }
-    ensures made { (s : FlatState) (before : List FlatEntry) → Begins s before flat.old journal.old.items h → Continues s before flat.new journal.new.items (IsUnit h) }
+    requires ready { InAccess flat.old hart arch.now operand.inst }
+    requires met { WillReach flat.old hart operand write
+        → IsPageToSync flat.old hart operand.va (option_map (λ v. v.items) met) }
+    ensures made { (s : FlatState) (before : List FlatEntry)
+        → Begins s before flat.old journal.old.items hart
+        → Continues s before flat.new journal.new.items (IsUnit hart) }
     ensures rests { IsResting flat.new }
     ensures harts { length flat.new.harts ≡ length flat.old.harts }
 {
-    if is_lost(flat, h, operand, write) {
-        miss(flat, journal, h, arch, operand);
+    if is_lost(flat, hart, operand, write) {
+        miss(flat, journal, hart, arch, operand);
         return;
     }
-    if text_value(flat, h, operand.va, operand.width).is_some() {
-        trap(flat, journal, h, STORE_PAGE_FAULT, operand.va);
+    if text_value(flat, hart, operand.va, operand.width).is_some() {
+        trap(flat, journal, hart, STORE_PAGE_FAULT, operand.va);
         return;
     }
-    let Some(found) = found_at(flat, h, operand.va) else {
-        trap(flat, journal, h, STORE_PAGE_FAULT, operand.va);
+    let Some(found) = found_at(flat, hart, operand.va) else {
+        trap(flat, journal, hart, STORE_PAGE_FAULT, operand.va);
         return;
     };
     if !found.write {
-        trap(flat, journal, h, STORE_PAGE_FAULT, operand.va);
+        trap(flat, journal, hart, STORE_PAGE_FAULT, operand.va);
         return;
     }
-    meet(flat, journal, h, found.page, met);
-    if will_write(flat, h, operand, write, found) {
-        write_page(flat, journal, h, arch, operand, write, found);
+    meet(flat, journal, hart, found.page, met);
+    if will_write(flat, hart, operand, write, found) {
+        write_page(flat, journal, hart, arch, operand, write, found);
     } else {
-        miss(flat, journal, h, arch, operand);
+        miss(flat, journal, hart, arch, operand);
     }
 }
 
 /// What the generations will have met where a write makes a hart's own meet a page; `None` where it makes
 /// none, or is lost. It takes memory.
-pub fn unmet_by(
+pub fn page_to_sync_by(
     flat: &Flat,
-    h: u8,
+    hart: u8,
     operand: Operand,
     write: Write,
 ) -> Result<Option<Vec<(u32, u32)>>, Memory>
-    requires there { h < length flat.now.harts }
+    requires there { hart < length flat.now.harts }
     requires ordered { IsOrdered flat.now }
-    ensures { IfOk result (λ met. WillReach flat.now h operand write → IsUnmet flat.now h operand.va (option_map (λ v. v.items) met)) }
+    ensures { IfOk result
+        (λ met. WillReach flat.now hart operand write
+        → IsPageToSync flat.now hart operand.va (option_map (λ v. v.items) met)) }
 {
-    if is_lost(flat, h, operand, write) {
+    if is_lost(flat, hart, operand, write) {
         return Ok(None);
     }
-    unmet(flat, h, operand.va)
+    page_to_sync(flat, hart, operand.va)
 }

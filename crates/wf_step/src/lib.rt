@@ -2,8 +2,7 @@
 #![tactic(auto)]
 
 mod accesses;
-mod causes;
-mod deeds;
+mod actions;
 mod stepping;
 
 pub use stepping::{StepFault, step};

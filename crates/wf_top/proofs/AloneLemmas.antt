@@ -1,5 +1,5 @@
 -- The hart of a machine of one hart is undisturbed at every moment of a legal journal.
-use Rattle.std.proofs.Common.{◌≡◌, ◌⊎◌, ℕ, zero, suc, List, [], ◌∷◌, Option, Some, None, Bool, true, false, length, refl, sym, subst, ap, ◌∙◌, inl, inr, arith}
+use Rattle.std.proofs.Common.{◌≡◌, ◌⊎◌, ℕ, zero, suc, List, [], ◌∷◌, Option, Some, None, Bool, true, false, length, refl, sym, subst, ap, ◌∙◌, inl, inr, arith, ◌<◌}
 use Rattle.std.specs.Prelude.{MatchBool, IfSome, ◌%◌, slice_get, ◌==◌, if◌then◌else◌}
 use Rattle.std.specs.List.{AllByRecursion}
 use Rattle.std.proofs.lemmas.Bool.Decides.{nat_tests}
@@ -11,13 +11,13 @@ use Rattle.wf_flat.specs.declared.event.Entry.{Entry}
 use Rattle.wf_flat.specs.State.{FlatState, HartState, PageState}
 use Rattle.wf_flat.specs.Lists.{changed_at, changed_by, others_changed}
 use Rattle.wf_flat.specs.Accesses.{Access, holds}
-use Rattle.wf_flat.specs.Memory.{page_of}
+use Rattle.wf_outside.specs.Pages.{page_of}
 use Rattle.wf_flat.specs.Refusals.{refused_answer}
 use Rattle.wf_flat.specs.Steps.{MayAct, access_in, is_inside, without, flat_after, change_hart, change_page, leave_hart, note_page, noted, noted_in, fetched_with, looked_with, taken_by, put_with, given_back, written_by, swapped_by, missed, answered, ended, tried, exited_with, trapped_with, give_back, give_back_by, give_back_of}
 use Rattle.wf_flat.specs.Calls.{IsNext, todo_left}
 use Rattle.wf_flat.specs.Legal.{Moment, Allows, IsLegal, after, end_of}
 use Rattle.wf_laws.specs.Laws.{IsOwn, IsUndisturbed, HartsAreDetermined}
-use Rattle.wf_step.proofs.StepLemmas.{some_and}
+use Rattle.wf_flat.proofs.ListLemmas.{some_and, changed_next, length_changed, others_alone}
 
 -- one hart, for which no page has moved; no page is Going or held by another; and nobody else is inside
 pub record IsAlone (s : FlatState) : Type 0 where
@@ -25,18 +25,6 @@ pub record IsAlone (s : FlatState) : Type 0 where
   pub still : AllByRecursion (λ hart. hart.moved ≡ []) s.harts
   pub own : AllByRecursion (IsOwn 0) s.pages
   pub inside : (s.inside ≡ None) ⊎ (s.inside ≡ Some (Hart 0))
-
-changed_next : {A : Type 0} (x : A) (xs : List A) (i : ℕ) (f : A → A) → changed_at (x ∷ xs) (suc i) f ≡ x ∷ changed_at xs i f
-changed_next {A = A} x xs i f = by_there (slice_get xs i) refl
-  where
-    by_there : (o : Option A) → slice_get xs i ≡ o → changed_at (x ∷ xs) (suc i) f ≡ x ∷ changed_at xs i f
-    by_there None e = rw e refl
-    by_there (Some y) e = rw e refl
-
-length_changed : {A : Type 0} (f : A → A) (xs : List A) (i : ℕ) → length (changed_at xs i f) ≡ length xs
-length_changed f [] i = refl
-length_changed f (x ∷ xs) zero = refl
-length_changed f (x ∷ xs) (suc i) = rw (changed_next x xs i f) (ap suc (length_changed f xs i))
 
 all_changed : {A : Type 0} (P : A → Type 0) (f : A → A) (xs : List A) (i : ℕ) → AllByRecursion P xs → ((x : A) → P x → P (f x)) → AllByRecursion P (changed_at xs i f)
 all_changed P f [] i all h = tt
@@ -51,10 +39,8 @@ all_changed_by P f n (page ∷ pages) all h = (by_test (page.number == n), all_c
     by_test true = h page all.0
     by_test false = all.0
 
-others_alone : (f : HartState → HartState) (harts : List HartState) → length harts ≡ 1 → others_changed harts 0 f ≡ harts
-others_alone f [] e = refl
-others_alone f (hart ∷ []) e = refl
-others_alone f (hart ∷ other ∷ harts) e = absurd (cc)
+there_is_one : (s : FlatState) → IsAlone s → 0 < length s.harts
+there_is_one s k = let one : length s.harts ≡ 1 = k.one in omega arith
 
 -- changes that keep it
 hart_changes : (s : FlatState) (f : HartState → HartState) → IsAlone s → ((hart : HartState) → hart.moved ≡ [] → (f hart).moved ≡ []) → IsAlone (change_hart s 0 f)
@@ -64,7 +50,7 @@ page_changes : (s : FlatState) (n : ℕ) (f : PageState → PageState) → IsAlo
 page_changes s n f k h = record { one = k.one; still = k.still; own = all_changed_by (IsOwn 0) f n s.pages k.own h; inside = k.inside }
 
 notes : (s : FlatState) (page : ℕ) → IsAlone s → IsAlone (note_page s 0 page)
-notes s page k = let same : others_changed s.harts 0 (noted page) ≡ s.harts = others_alone (noted page) s.harts k.one in record { one = ap length same ∙ k.one; still = rw same k.still; own = k.own; inside = k.inside }
+notes s page k = let same : others_changed s.harts 0 (noted page) ≡ s.harts = others_alone s.harts 0 (noted page) k.one (there_is_one s k) in record { one = ap length same ∙ k.one; still = rw same k.still; own = k.own; inside = k.inside }
 
 leaves_by : (o : Option Actor) → (o ≡ None) ⊎ (o ≡ Some (Hart 0)) → without o (Hart 0) ≡ None
 leaves_by o d = elim d [ inl e ↦ rw e refl | inr e ↦ rw e refl ]
@@ -87,7 +73,7 @@ gives_back_by s (Some hart) k = gives_back_of s hart (access_in hart) k
 
 syncs : (s : FlatState) (generation page : ℕ) → IsAlone s → IsAlone (flat_after s (Hart 0) (Sync generation page))
 syncs s generation page k =
-    let same : others_changed s.harts 0 (noted_in generation page) ≡ s.harts = others_alone (noted_in generation page) s.harts k.one in
+    let same : others_changed s.harts 0 (noted_in generation page) ≡ s.harts = others_alone s.harts 0 (noted_in generation page) k.one (there_is_one s k) in
     record { one = ap length same ∙ k.one; still = rw same k.still; own = k.own; inside = inl (leaves_by s.inside k.inside) }
 
 keeps_flat : (s : FlatState) (e : Event) → IsAlone s → IsAlone (flat_after s (Hart 0) e)

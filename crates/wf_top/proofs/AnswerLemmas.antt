@@ -10,13 +10,13 @@ use Rattle.wf_flat.specs.declared.event.Entry.{Entry}
 use Rattle.wf_flat.specs.Legal.{end_of}
 use Rattle.wf_laws.specs.Laws.{HartsAreDetermined, UnbuiltHasNoUnit}
 use Rattle.wf_top.specs.declared.script.Command.{Command}
-use Rattle.wf_top.specs.PlainImage.{image_of}
+use Rattle.wf_top.specs.PlainImage.{plain_image_of}
 use Rattle.wf_top.specs.PlainScript.{IsScript, IsScriptFault}
 use Rattle.wf_top.specs.Running.{start_of}
 use Rattle.wf_report.specs.Report.{report_bytes}
-use Rattle.wf_top.specs.Answers.{IsTooLong, Reads, HoldsImage, HoldsBoth, CallsFor, max_file}
+use Rattle.wf_top.specs.Answers.{IsTooLong, HoldsBytes, HoldsImage, HoldsBoth, CallsFor, max_file}
 use Rattle.wf_top.specs.Laws.{AnswersAreOne, ReportsAreOne, RunsMeetNothing}
-use Rattle.wf_step.proofs.StepLemmas.{some_and}
+use Rattle.wf_flat.proofs.ListLemmas.{some_and}
 use Rattle.wf_top.proofs.ScriptLemmas.{no_fault, same_script, same_fault}
 use Rattle.wf_top.proofs.StartLemmas.{start_alone}
 use Rattle.wf_top.proofs.DeterminedLemmas.{follows_same, meets_nothing, meets_one}
@@ -29,34 +29,34 @@ same_held held P Q p q =
     let same : w.0 ≡ v.0 = cc in
     (v.0, v.2, subst Q same w.2)
 
-long_not_read : (held : Option (List ℕ)) (P : List ℕ → Type 0) → IsTooLong held → Reads held P → ⊥
+long_not_read : (held : Option (List ℕ)) (P : List ℕ → Type 0) → IsTooLong held → HoldsBytes held P → ⊥
 long_not_read held P p q =
     let b = same_held held _ _ p q in
     let long : max_file < length b.0 = b.1 in
     let short : length b.0 ≤ max_file = b.2.0 in
     omega arith
 
-same_image : (held : Option (List ℕ)) (one other : ImageValue) → Reads held (λ bytes. image_of bytes ≡ Some one) → Reads held (λ bytes. image_of bytes ≡ Some other) → one ≡ other
+same_image : (held : Option (List ℕ)) (one other : ImageValue) → HoldsBytes held (λ bytes. plain_image_of bytes ≡ Some one) → HoldsBytes held (λ bytes. plain_image_of bytes ≡ Some other) → one ≡ other
 same_image held one other p q =
     let b = same_held held _ _ p q in
-    let e : image_of b.0 ≡ Some one = b.1.1 in
-    let f : image_of b.0 ≡ Some other = b.2.1 in
+    let e : plain_image_of b.0 ≡ Some one = b.1.1 in
+    let f : plain_image_of b.0 ≡ Some other = b.2.1 in
     cc
 
-no_image : (held : Option (List ℕ)) (image : ImageValue) → Reads held (λ bytes. image_of bytes ≡ None) → Reads held (λ bytes. image_of bytes ≡ Some image) → ⊥
+no_image : (held : Option (List ℕ)) (image : ImageValue) → HoldsBytes held (λ bytes. plain_image_of bytes ≡ None) → HoldsBytes held (λ bytes. plain_image_of bytes ≡ Some image) → ⊥
 no_image held image p q =
     let b = same_held held _ _ p q in
-    let e : image_of b.0 ≡ None = b.1.1 in
-    let f : image_of b.0 ≡ Some image = b.2.1 in
+    let e : plain_image_of b.0 ≡ None = b.1.1 in
+    let f : plain_image_of b.0 ≡ Some image = b.2.1 in
     cc
 
-one_script : (held : Option (List ℕ)) (one other : List Command) → Reads held (λ bytes. IsScript bytes one) → Reads held (λ bytes. IsScript bytes other) → one ≡ other
+one_script : (held : Option (List ℕ)) (one other : List Command) → HoldsBytes held (λ bytes. IsScript bytes one) → HoldsBytes held (λ bytes. IsScript bytes other) → one ≡ other
 one_script held one other p q = let b = same_held held _ _ p q in same_script b.0 one other b.1.1 b.2.1
 
-not_both : (held : Option (List ℕ)) (script : List Command) (line : ℕ) → Reads held (λ bytes. IsScript bytes script) → Reads held (λ bytes. IsScriptFault bytes line) → ⊥
+not_both : (held : Option (List ℕ)) (script : List Command) (line : ℕ) → HoldsBytes held (λ bytes. IsScript bytes script) → HoldsBytes held (λ bytes. IsScriptFault bytes line) → ⊥
 not_both held script line p q = let b = same_held held _ _ p q in no_fault b.0 script line b.1.1 b.2.1
 
-one_line : (held : Option (List ℕ)) (one other : ℕ) → Reads held (λ bytes. IsScriptFault bytes one) → Reads held (λ bytes. IsScriptFault bytes other) → one ≡ other
+one_line : (held : Option (List ℕ)) (one other : ℕ) → HoldsBytes held (λ bytes. IsScriptFault bytes one) → HoldsBytes held (λ bytes. IsScriptFault bytes other) → one ≡ other
 one_line held one other p q = let b = same_held held _ _ p q in same_fault b.0 one other b.1.1 b.2.1
 
 -- two that are held are one
@@ -64,19 +64,19 @@ both_same : (image script : Option (List ℕ)) (P Q : ImageValue → List Comman
 both_same image script P Q p q =
     let images : q.image ≡ p.image = same_image image q.image p.image q.is_image p.is_image in
     let scripts : q.script ≡ p.script = one_script script q.script p.script q.is_script p.is_script in
-    (p.image, p.script, p.holds, subst (λ (s : List Command). Q p.image s) scripts (subst (λ (i : ImageValue). Q i q.script) images q.holds))
+    (p.image, p.script, p.fits, subst (λ (s : List Command). Q p.image s) scripts (subst (λ (i : ImageValue). Q i q.script) images q.fits))
 
 image_held : {P : ImageValue → List Command → Type 0} {image script : Option (List ℕ)} → HoldsBoth image script P → HoldsImage image
 image_held p = record { image = p.image; is = p.is_image }
 
 -- a limit, and none beside it
-limit_and : (image script : Option (List ℕ)) → IsTooLong image ⊎ (HoldsImage image × IsTooLong script) → (P : List ℕ → Type 0) → HoldsImage image → Reads script P → ⊥
+limit_and : (image script : Option (List ℕ)) → IsTooLong image ⊎ (HoldsImage image × IsTooLong script) → (P : List ℕ → Type 0) → HoldsImage image → HoldsBytes script P → ⊥
 limit_and image script d P i s = elim d [
   | inl long ↦ long_not_read image _ long i.is
   | inr both ↦ long_not_read script P both.1 s
 ]
 
-limit_image : (image script : Option (List ℕ)) → IsTooLong image ⊎ (HoldsImage image × IsTooLong script) → Reads image (λ bytes. image_of bytes ≡ None) → ⊥
+limit_image : (image script : Option (List ℕ)) → IsTooLong image ⊎ (HoldsImage image × IsTooLong script) → HoldsBytes image (λ bytes. plain_image_of bytes ≡ None) → ⊥
 limit_image image script d p = elim d [
   | inl long ↦ long_not_read image _ long p
   | inr both ↦ no_image image both.0.image p both.0.is

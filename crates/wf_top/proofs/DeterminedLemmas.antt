@@ -14,8 +14,8 @@ use Rattle.wf_laws.specs.Laws.{HartsAreDetermined, UnbuiltHasNoUnit}
 use Rattle.wf_top.specs.declared.script.Command.{Command}
 use Rattle.wf_top.specs.declared.script.Command.TheVariants.{Step}
 use Rattle.wf_top.specs.Follows.{IsBlock, Follows, IsCut, MeetsUnbuiltAt, MeetsUnbuilt}
-use Rattle.wf_step.proofs.StepLemmas.{some_and}
-use Rattle.wf_step.proofs.JournalLemmas.{end_of-append, legal_front, legal_back}
+use Rattle.wf_flat.proofs.ListLemmas.{some_and}
+use Rattle.wf_flat.proofs.JournalLemmas.{end_of-append, legal_front, legal_back}
 use Rattle.wf_top.proofs.AloneLemmas.{IsAlone, determined, alone_after, alone_at_end}
 
 same_entry : (e f : Entry) → e.actor ≡ f.actor → e.event ≡ f.event → e ≡ f

@@ -9,4 +9,3 @@ pub mod AnswerLemmas
 pub mod PutLemmas
 pub mod SizeLemmas
 pub mod TopLemmas
-pub mod TestLemmas

@@ -10,7 +10,7 @@ use Rattle.wf_top.specs.declared.script.Command.{Command}
 use Rattle.wf_top.specs.declared.script.Command.TheVariants.{Step}
 use Rattle.wf_top.specs.Follows.{IsBlock, Follows, MeetsUnbuiltAt, MeetsUnbuilt}
 use Rattle.wf_step.specs.Stepping.{IsResting, Continues}
-use Rattle.wf_step.proofs.JournalLemmas.{legal-append, end_of-append}
+use Rattle.wf_flat.proofs.JournalLemmas.{legal-append, end_of-append}
 use Rattle.wf_top.specs.Following.{StopsIn}
 
 -- the hart made fewer units, and then met what is not built
@@ -28,7 +28,7 @@ pub continues_more : {s mid new : FlatState} {old mids now : List Entry} {P Q : 
 continues_more {s = s} R c d join =
     record {
       made = c.made ++ d.made;
-      noted = rw (d.noted, c.noted, append_assoc) refl;
+      appended = rw (d.appended, c.appended, append_assoc) refl;
       legal = legal-append (at_rest s) c.made d.made c.legal (rw (← c.reached) d.legal);
       reached = rw (end_of-append, ← c.reached) d.reached;
       fits = join c.made d.made c.fits d.fits;

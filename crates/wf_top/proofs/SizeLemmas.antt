@@ -1,8 +1,7 @@
 -- A plain image and one hart take ten frames.
 use Rattle.std.proofs.Common.{◌≡◌, ℕ, List, [], ◌∷◌, length, refl, sym, subst, arith, lit≤, ◌≤◌, Option, Some, None, Bool, true, false, cond}
-use Rattle.wf_top.specs.Answers.{Reads}
+use Rattle.wf_top.specs.Answers.{HoldsBytes}
 use Rattle.std.specs.List.{AllByRecursion}
-use Rattle.std.specs.Prelude.{IfSome}
 use Rattle.wf_top.specs.declared.script.Command.{Command}
 use Rattle.wf_top.specs.declared.script.Command.TheVariants.{Step}
 use Rattle.wf_top.specs.PlainScript.{IsPlain}
@@ -12,9 +11,9 @@ use Rattle.wf_outside.specs.Pages.{LimitsValue}
 use Rattle.wf_outside.specs.Images.{ImageValue}
 use Rattle.wf_flat.specs.State.{FlatState}
 use Rattle.wf_flat.specs.Ordered.{IsOrdered}
-use Rattle.wf_flat.specs.Counts.{used_of, places_with}
-use Rattle.wf_flat.specs.Boot.{boot_of, stacks_of, numbered_from, boot_harts}
-use Rattle.wf_top.specs.PlainImage.{plain_text, is_plain_image, image_of}
+use Rattle.wf_flat.specs.Counts.{used_of}
+use Rattle.wf_flat.specs.Boot.{boot_of, stacks_of, numbered_from, boot_harts, places_with}
+use Rattle.wf_top.specs.PlainImage.{plain_text, is_plain_image, plain_image_of}
 use Rattle.wf_top.specs.Running.{sizes}
 use Rattle.wf_top.proofs.StartLemmas.{boot_fresh}
 
@@ -40,7 +39,7 @@ plain_there [] all = tt
 plain_there (Step hart n ∷ script) all = (let e : hart ≡ 0 = all.0.0 in omega arith, plain_there script all.1)
 
 -- what a plain image takes fits
-pub plain_fits : (bytes : List ℕ) (image : ImageValue) → Some image ≡ image_of bytes → used_of (boot_of image 1 sizes) ≤ 1024
+pub plain_fits : (bytes : List ℕ) (image : ImageValue) → Some image ≡ plain_image_of bytes → used_of (boot_of image 1 sizes) ≤ 1024
 plain_fits bytes image e = by_test (is_plain_image bytes) e
   where
     by_test : (b : Bool) → Some image ≡ cond b (Some (record { text = plain_text bytes ∷ []; pages = []; entry = 0x10000; names = []; end = 0x11 })) None → used_of (boot_of image 1 sizes) ≤ 1024
@@ -48,10 +47,6 @@ plain_fits bytes image e = by_test (is_plain_image bytes) e
     by_test false f = absurd (cc)
 
 -- what is read of what is held
-pub reads_more : (held : Option (List ℕ)) (P Q : List ℕ → Type 0) → ((bytes : List ℕ) → P bytes → Q bytes) → Reads held P → Reads held Q
+pub reads_more : (held : Option (List ℕ)) (P Q : List ℕ → Type 0) → ((bytes : List ℕ) → P bytes → Q bytes) → HoldsBytes held P → HoldsBytes held Q
 reads_more None P Q more h = h
 reads_more (Some bytes) P Q more h = (h.0, more bytes h.1)
-
-pub if_some_more : {A : Type 0} (o : Option A) (P Q : A → Type 0) → ((x : A) → P x → Q x) → IfSome o P → IfSome o Q
-if_some_more None P Q more h = tt
-if_some_more (Some x) P Q more h = more x h

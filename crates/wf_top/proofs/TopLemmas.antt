@@ -7,7 +7,7 @@ use Rattle.wf_outside.specs.declared.status.Status.TheVariants.{Done, Shelf, Sin
 use Rattle.wf_top.specs.Words.{run_words}
 use Rattle.wf_top.specs.Answers.{IfRun, IsFault, CallsFor, PutsRun}
 use Rattle.wf_top.specs.Laws.{AnswersAreOne, RunsMeetNothing}
-use Rattle.wf_top.proofs.SizeLemmas.{if_some_more}
+use Rattle.wf_flat.proofs.ListLemmas.{if_some_more}
 
 -- the words are those of a run on these two files
 by_words : (words : List (List ℕ)) (holds : Option (List File)) (P : Option (List ℕ) → Option (List ℕ) → Type 0) (image script : List ℕ) → run_words words ≡ Some (image, script)
@@ -17,7 +17,7 @@ by_words words holds P image script e h = rw e h
 -- a run that was put is called for
 put_is_called_for : RunsMeetNothing → (image script before now : Option (List ℕ)) → PutsRun image script before now → CallsFor image script Done
 put_is_called_for law image script before now d =
-    record { image = d.image; script = d.script; is_image = d.is_image; is_script = d.is_script; holds = λ pc meets. law d.image d.script d.holds.0 pc d.holds.1 meets }
+    record { image = d.image; script = d.script; is_image = d.is_image; is_script = d.is_script; fits = λ pc meets. law d.image d.script d.fits.0 pc d.fits.1 meets }
 
 pub done_cause : RunsMeetNothing → (words : List (List ℕ)) (holds : Option (List File)) (image script : List ℕ) (before now : Option (List ℕ)) → run_words words ≡ Some (image, script)
     → IfSome holds (λ files. PutsRun (first_bytes image files) (first_bytes script files) before now) → IfSome holds (λ files. IsFault Done ⊎ CallsFor (first_bytes image files) (first_bytes script files) Done)

@@ -7,10 +7,10 @@ use Rattle.wf_outside.specs.declared.status.Unbuilt.TheVariants.{Image, Script, 
 use Rattle.wf_outside.specs.Images.{ImageValue}
 use Rattle.wf_top.specs.declared.script.Command.{Command}
 use Rattle.wf_top.specs.Follows.{MeetsUnbuilt}
-use Rattle.wf_top.specs.PlainImage.{image_of}
+use Rattle.wf_top.specs.PlainImage.{plain_image_of}
 use Rattle.wf_top.specs.PlainScript.{IsScriptFault}
 use Rattle.wf_top.specs.Running.{start_of}
-use Rattle.wf_top.specs.Answers.{IsTooLong, Reads, max_file}
+use Rattle.wf_top.specs.Answers.{IsTooLong, HoldsBytes, max_file}
 
 -- of what is held under a name, the file is longer than allowed
 abbrev pub IsLimit : Option (List ℕ) → ℕ → ℕ → Type 0
@@ -23,23 +23,23 @@ IsReadStatus held Memory = Unit {0}
 IsReadStatus held (Limit File number most) = IsLimit held number most
 IsReadStatus held status = ⊥
 
--- those of an image
+-- the statuses of an image, and what they say of what is held
 abbrev pub IsImageStatus : Option (List ℕ) → Status → Type 0
 IsImageStatus held Shelf = Unit {0}
 IsImageStatus held Memory = Unit {0}
 IsImageStatus held (Limit File number most) = IsLimit held number most
-IsImageStatus held (Unbuilt Image) = Reads held (λ bytes. image_of bytes ≡ None)
+IsImageStatus held (Unbuilt Image) = HoldsBytes held (λ bytes. plain_image_of bytes ≡ None)
 IsImageStatus held status = ⊥
 
--- those of a script
+-- the statuses of a script, and what they say of what is held
 abbrev pub IsScriptStatus : Option (List ℕ) → Status → Type 0
 IsScriptStatus held Shelf = Unit {0}
 IsScriptStatus held Memory = Unit {0}
 IsScriptStatus held (Limit File number most) = IsLimit held number most
-IsScriptStatus held (Unbuilt (Script line)) = Reads held (λ bytes. IsScriptFault bytes line)
+IsScriptStatus held (Unbuilt (Script line)) = HoldsBytes held (λ bytes. IsScriptFault bytes line)
 IsScriptStatus held status = ⊥
 
--- those of a run of a script on an image
+-- the statuses of a run of a script on an image, and when they come
 abbrev pub IsRunStatus : ImageValue → List Command → Status → Type 0
 IsRunStatus image script Memory = Unit {0}
 IsRunStatus image script (Unbuilt (Step pc)) = MeetsUnbuilt (start_of image) script pc

@@ -11,6 +11,7 @@ use Rattle.wf_top.specs.declared.script.Command.TheVariants.{Step}
 abbrev pub IsBlock : Command → List Entry → Type 0
 IsBlock (Step hart n) entries = AreUnits hart n entries
 
+-- a journal follows commands: it is a block of entries for each, in order
 abbrev pub Follows : List Command → List Entry → Type 0
 Follows [] journal = journal ≡ []
 Follows (command ∷ commands) journal = Splits journal (IsBlock command) (Follows commands)

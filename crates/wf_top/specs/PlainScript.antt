@@ -4,8 +4,6 @@ use Rattle.std.specs.List.{flat_map, AllByRecursion}
 use Rattle.std.specs.Fmt.{decimal}
 use Rattle.wf_top.specs.declared.script.Command.{Command}
 use Rattle.wf_top.specs.declared.script.Command.TheVariants.{Step}
-use Rattle.wf_top.specs.declared.script.ScriptFault.{ScriptFault}
-use Rattle.wf_top.specs.declared.script.ScriptFault.TheVariants.{Line, Memory}
 
 -- the line of a command
 unfoldable pub line_of : Command → List ℕ
@@ -37,10 +35,6 @@ pub record IsScriptFault (bytes : List ℕ) (line : ℕ) : Type 0 where
   pub plain : ArePlain front
   pub spelled : bytes ≡ flat_map line_of front ++ rest
   pub more : rest ≢ []
-  pub none : (command : Command) (others : List ℕ) → ArePlain (front ++ command ∷ []) → rest ≡ line_of command ++ others → ⊥
+  pub none : (command : Command) (others : List ℕ) → ArePlain (front ++ command ∷ [])
+      → rest ≡ line_of command ++ others → ⊥
   pub line_is : line ≡ length front + 1
-
--- the fault is in this line, unless memory ran out
-abbrev pub IsFaultAt : ScriptFault → ℕ → Type 0
-IsFaultAt (Line at) line = at ≡ line
-IsFaultAt Memory line = Unit {0}

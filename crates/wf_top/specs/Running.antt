@@ -1,5 +1,6 @@
 -- What a run writes.
 use Rattle.std.specs.Prelude.{◌≡◌, ℕ, List}
+use Rattle.wf_outside.specs.declared.sizes.TheConstants.{MOST_WRITES, MOST_BIRTHS}
 use Rattle.wf_outside.specs.Pages.{LimitsValue}
 use Rattle.wf_outside.specs.Images.{ImageValue}
 use Rattle.wf_flat.specs.declared.event.Entry.{Entry}
@@ -11,7 +12,7 @@ use Rattle.wf_report.specs.Report.{report_bytes}
 
 -- the sizes of the machine: 1,024 frames, and the whole range of both counts
 abbrev pub sizes : LimitsValue
-sizes = record { frames = 1024; last_writes = 549755813887; last_birth = 8388607 }
+sizes = record { frames = 1024; last_writes = MOST_WRITES; last_birth = MOST_BIRTHS }
 
 -- one hart at the start of the image, and no call open
 abbrev pub start_of : ImageValue → Moment

@@ -2,6 +2,7 @@
 use Rattle.std.specs.Prelude.{◌==◌, ◌&&◌, ℕ, List, [], ◌∷◌, Bool, false, not, Option, Some, None, if◌then◌else◌, codes}
 use Rattle.std.specs.Str.{bytes_eq}
 
+-- the first byte of a word is a dash
 abbrev pub begins_with_dash : List ℕ → Bool
 begins_with_dash [] = false
 begins_with_dash (c ∷ cs) = c == 45
@@ -9,5 +10,7 @@ begins_with_dash (c ∷ cs) = c == 45
 -- the names of the image and of the script, where the words are those of `run IMAGE SCRIPT`
 abbrev pub run_words : List (List ℕ) → Option (List ℕ × List ℕ)
 run_words (command ∷ image ∷ script ∷ []) =
-    if bytes_eq command (codes "run") && (not (begins_with_dash image) && not (begins_with_dash script)) then Some (image, script) else None
+    if bytes_eq command (codes "run")
+    && (not (begins_with_dash image) && not (begins_with_dash script))
+    then Some (image, script) else None
 run_words words = None

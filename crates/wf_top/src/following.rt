@@ -12,25 +12,28 @@ use wf_flat::{Entry, Flat};
 use wf_step::{StepFault, step};
 
 // So many units of a hart.
-fn step_units(flat: &mut Flat, journal: &mut Vec<Entry>, h: u8, n: u64) -> Result<(), StepFault>
+fn step_units(flat: &mut Flat, journal: &mut Vec<Entry>, hart: u8, n: u64) -> Result<(), StepFault>
     requires rests { IsResting flat.old }
-    requires there { h < length flat.old.harts }
-    ensures ok { OnOk result (Continues flat.old journal.old.items flat.new journal.new.items (AreUnits h n)) }
-    ensures unbuilt { (pc : ℕ) → result ≡ Err (StepFault.Unbuilt pc) → StopsIn flat.old (Command.Step h n) pc }
+    requires there { hart < length flat.old.harts }
+    ensures ok { OnOk result
+        (Continues flat.old journal.old.items flat.new journal.new.items (AreUnits hart n)) }
+    ensures unbuilt { (pc : ℕ) → result ≡ Err (StepFault.Unbuilt pc)
+        → StopsIn flat.old (Command.Step hart n) pc }
     ensures rests { IsResting flat.new }
     ensures harts { length flat.new.harts ≡ length flat.old.harts }
 {
     for _ in 0..n {
-        step(flat, journal, h)?;
+        step(flat, journal, hart)?;
     }
     Ok(())
 }
 
 // The units of a command.
-fn obey(flat: &mut Flat, journal: &mut Vec<Entry>, command: Command) -> Result<(), StepFault>
+fn run_command(flat: &mut Flat, journal: &mut Vec<Entry>, command: Command) -> Result<(), StepFault>
     requires rests { IsResting flat.old }
     requires there { IsThere (length flat.old.harts) command }
-    ensures ok { OnOk result (Continues flat.old journal.old.items flat.new journal.new.items (IsBlock command)) }
+    ensures ok { OnOk result
+        (Continues flat.old journal.old.items flat.new journal.new.items (IsBlock command)) }
     ensures unbuilt { (pc : ℕ) → result ≡ Err (StepFault.Unbuilt pc) → StopsIn flat.old command pc }
     ensures rests { IsResting flat.new }
     ensures harts { length flat.new.harts ≡ length flat.old.harts }
@@ -48,12 +51,14 @@ pub fn follow(
 ) -> Result<(), StepFault>
     requires rests { IsResting flat.old }
     requires there { AllByRecursion (IsThere (length flat.old.harts)) script.now }
-    ensures ok { OnOk result (Continues flat.old journal.old.items flat.new journal.new.items (Follows script.now)) }
-    ensures unbuilt { (pc : ℕ) → result ≡ Err (StepFault.Unbuilt pc) → MeetsUnbuilt (at_rest flat.old) script.now pc }
+    ensures ok { OnOk result
+        (Continues flat.old journal.old.items flat.new journal.new.items (Follows script.now)) }
+    ensures unbuilt { (pc : ℕ) → result ≡ Err (StepFault.Unbuilt pc)
+        → MeetsUnbuilt (at_rest flat.old) script.now pc }
     ensures harts { length flat.new.harts ≡ length flat.old.harts }
 {
     for command in script {
-        obey(flat, journal, *command)?;
+        run_command(flat, journal, *command)?;
     }
     Ok(())
 }

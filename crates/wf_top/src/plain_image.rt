@@ -1,7 +1,7 @@
 //! Plain images.
 ghost use Rattle.std.specs.Prelude.{◌≡◌, ◌<◌, ◌≤◌, ◌+◌, ◌*◌, ◌^◌, IfOk, Some, None, length, drop};
 ghost use Rattle.byteorder.specs.Endian.{little_number};
-ghost use Rattle.wf_top.specs.PlainImage.{field, has_plain_header, has_plain_segment, is_plain_image, words_in, plain_text, image_of};
+ghost use Rattle.wf_top.specs.PlainImage.{field, has_plain_header, has_plain_segment, is_plain_image, words_in, plain_text, plain_image_of};
 
 use byteorder::{ByteOrder, LittleEndian};
 use std::alloc::Global;
@@ -124,7 +124,7 @@ fn plain_text(alloc: Global, bytes: &[u8]) -> Result<Page, Memory>
 /// the end. The bytes of the page behind the text are 0. `None` where the bytes are no plain image;
 /// an error is want of memory. The time is that of one page, whatever the length of the file.
 pub fn read_image(alloc: Global, bytes: &[u8]) -> Result<Option<Image>, Memory>
-    ensures { IfOk result (λ image. image ≡ image_of bytes.now) }
+    ensures { IfOk result (λ image. image ≡ plain_image_of bytes.now) }
 {
     if !is_plain_image(bytes) {
         return Ok(None);

@@ -15,17 +15,19 @@ use crate::input::{fetch_image, fetch_script};
 use crate::laws::runs_are_determined;
 use crate::output::put_all;
 use crate::script::Command;
-use crate::words::read_words;
+use crate::words::names_of_run;
 use std::alloc::Global;
 use wf_flat::{BootFault, boot};
-use wf_outside::{Image, Limits, Memory, Shelf, Sink, Status, Text, Unbuilt};
+use wf_outside::{
+    Image, Limits, MOST_BIRTHS, MOST_WRITES, Memory, Shelf, Sink, Status, Text, Unbuilt,
+};
 use wf_report::report;
 use wf_step::StepFault;
 
 const SIZES: Limits = Limits {
     frames: 1024,
-    last_writes: 549_755_813_887,
-    last_birth: 8_388_607,
+    last_writes: MOST_WRITES,
+    last_birth: MOST_BIRTHS,
 };
 
 // The report of one hart that runs the script on the image.
@@ -63,24 +65,39 @@ fn run<S: Shelf, K: Sink>(
     sink: &mut K,
 ) -> Result<(), Status>
     ensures shelf { result ≡ Err Status.Shelf
-        → HasRisen (S.faults shelf.old image_name.now) (S.faults shelf.new image_name.now) ⊎ HasRisen (S.faults shelf.old script_name.now) (S.faults shelf.new script_name.now) }
-    ensures needed { result ≡ Err Status.Shelf → IfSome (S.holds shelf.old) (λ files.
-        HasRisen (S.faults shelf.old image_name.now) (S.faults shelf.new image_name.now)
-        ⊎ (HoldsImage (first_bytes image_name.now files) × HasRisen (S.faults shelf.old script_name.now) (S.faults shelf.new script_name.now))) }
+        → HasRisen (S.faults shelf.old image_name.now) (S.faults shelf.new image_name.now)
+        ⊎ HasRisen (S.faults shelf.old script_name.now) (S.faults shelf.new script_name.now) }
+    ensures needed { result ≡ Err Status.Shelf
+        → IfSome (S.holds shelf.old)
+        (λ files. HasRisen (S.faults shelf.old image_name.now) (S.faults shelf.new image_name.now)
+        ⊎ (HoldsImage (first_bytes image_name.now files)
+        × HasRisen (S.faults shelf.old script_name.now)
+        (S.faults shelf.new script_name.now))) }
     ensures sink { result ≡ Err Status.Sink → HasRisen (K.faults sink.old) (K.faults sink.new) }
-    ensures done { OnOk result (IfSome (S.holds shelf.old) (λ files.
-        PutsRun (first_bytes image_name.now files) (first_bytes script_name.now files) (K.got sink.old) (K.got sink.new))) }
-    ensures cause { IfErr result (λ status. IfSome (S.holds shelf.old) (λ files.
-        IsFault status ⊎ CallsFor (first_bytes image_name.now files) (first_bytes script_name.now files) status)) }
+    ensures done { OnOk result
+        (IfSome (S.holds shelf.old)
+        (λ files. PutsRun (first_bytes image_name.now files) (first_bytes script_name.now files)
+        (K.got sink.old) (K.got sink.new))) }
+    ensures cause { IfErr result
+        (λ status. IfSome (S.holds shelf.old)
+        (λ files. IsFault status
+        ⊎ CallsFor (first_bytes image_name.now files)
+        (first_bytes script_name.now files) status)) }
     ensures kind { IfErr result (λ status. (status ≢ Status.Done) × (status ≢ Status.Words)) }
     ensures holds { S.holds shelf.new ≡ S.holds shelf.old }
     ensures counts { (other : List ℕ) → S.faults shelf.old other ≤ S.faults shelf.new other }
     ensures unput { IfErr result (λ status. status ≢ Status.Sink → status ≢ Status.Memory
         → (K.got sink.new ≡ K.got sink.old) × (K.faults sink.new ≡ K.faults sink.old)) }
-    ensures front { IfErr result (λ status. IfSome (S.holds shelf.old) (λ files. status ≡ Status.Sink
-        → PutsFront (first_bytes image_name.now files) (first_bytes script_name.now files) (K.got sink.old) (K.got sink.new))) }
-    ensures front_or_none { IfErr result (λ status. IfSome (S.holds shelf.old) (λ files. (K.got sink.new ≡ K.got sink.old)
-        ⊎ PutsFront (first_bytes image_name.now files) (first_bytes script_name.now files) (K.got sink.old) (K.got sink.new))) }
+    ensures front { IfErr result
+        (λ status. IfSome (S.holds shelf.old)
+        (λ files. status ≡ Status.Sink
+        → PutsFront (first_bytes image_name.now files) (first_bytes script_name.now files)
+        (K.got sink.old) (K.got sink.new))) }
+    ensures front_or_none { IfErr result
+        (λ status. IfSome (S.holds shelf.old)
+        (λ files. (K.got sink.new ≡ K.got sink.old)
+        ⊎ PutsFront (first_bytes image_name.now files) (first_bytes script_name.now files)
+        (K.got sink.old) (K.got sink.new))) }
 {
     let image = fetch_image(alloc, shelf, image_name)?;
     let script = fetch_script(alloc, shelf, script_name)?;
@@ -97,41 +114,58 @@ pub fn top<S: Shelf, K: Sink>(alloc: Global, words: &[Text], shelf: &mut S, sink
 
     // A read of a needed name failed: of the image's, or of the script's where the image is plain. Where
     // the shelf tells nothing of what it holds, both are needed.
-    ensures shelf { result ≡ Status.Shelf → IfSome (run_words words.now) (λ names.
-        HasRisen (S.faults shelf.old names.0) (S.faults shelf.new names.0) ⊎ HasRisen (S.faults shelf.old names.1) (S.faults shelf.new names.1)) }
-    ensures needed { result ≡ Status.Shelf → IfSome (run_words words.now) (λ names. IfSome (S.holds shelf.old) (λ files.
-        HasRisen (S.faults shelf.old names.0) (S.faults shelf.new names.0)
-        ⊎ (HoldsImage (first_bytes names.0 files) × HasRisen (S.faults shelf.old names.1) (S.faults shelf.new names.1)))) }
+    ensures shelf { result ≡ Status.Shelf
+        → IfSome (run_words words.now)
+        (λ names. HasRisen (S.faults shelf.old names.0) (S.faults shelf.new names.0)
+        ⊎ HasRisen (S.faults shelf.old names.1) (S.faults shelf.new names.1)) }
+    ensures needed { result ≡ Status.Shelf
+        → IfSome (run_words words.now)
+        (λ names. IfSome (S.holds shelf.old)
+        (λ files. HasRisen (S.faults shelf.old names.0) (S.faults shelf.new names.0)
+        ⊎ (HoldsImage (first_bytes names.0 files)
+        × HasRisen (S.faults shelf.old names.1) (S.faults shelf.new names.1)))) }
 
     // A put failed.
     ensures sink { result ≡ Status.Sink → HasRisen (K.faults sink.old) (K.faults sink.new) }
 
     // What was put is the report of one run of the flat machine, which follows the script command by command.
-    ensures done { result ≡ Status.Done → IfRun words.now (S.holds shelf.old) (λ image script. PutsRun image script (K.got sink.old) (K.got sink.new)) }
+    ensures done { result ≡ Status.Done
+        → IfRun words.now (S.holds shelf.old)
+        (λ image script. PutsRun image script (K.got sink.old) (K.got sink.new)) }
 
     // What is answered stands in the files, or is a fault; and what the files call for is answered, but for a fault.
-    ensures cause { IfRun words.now (S.holds shelf.old) (λ image script. IsFault result ⊎ CallsFor image script result) }
-    ensures answer { IfRun words.now (S.holds shelf.old) (λ image script. (status : Status) → CallsFor image script status → (result ≡ status) ⊎ IsFault result) }
+    ensures cause { IfRun words.now (S.holds shelf.old)
+        (λ image script. IsFault result ⊎ CallsFor image script result) }
+    ensures answer { IfRun words.now (S.holds shelf.old)
+        (λ image script. (status : Status) → CallsFor image script status
+        → (result ≡ status) ⊎ IsFault result) }
 
     // Where the files call for a whole run and no count of faults rose, the answer is Done or Memory.
-    ensures complete { IfSome (run_words words.now) (λ names. IfSome (S.holds shelf.old) (λ files.
-        CallsFor (first_bytes names.0 files) (first_bytes names.1 files) Status.Done
-        → ¬ HasRisen (S.faults shelf.old names.0) (S.faults shelf.new names.0) → ¬ HasRisen (S.faults shelf.old names.1) (S.faults shelf.new names.1)
-        → ¬ HasRisen (K.faults sink.old) (K.faults sink.new) → (result ≡ Status.Done) ⊎ (result ≡ Status.Memory))) }
+    ensures complete { IfSome (run_words words.now)
+        (λ names. IfSome (S.holds shelf.old)
+        (λ files. CallsFor (first_bytes names.0 files) (first_bytes names.1 files) Status.Done
+        → ¬ HasRisen (S.faults shelf.old names.0) (S.faults shelf.new names.0)
+        → ¬ HasRisen (S.faults shelf.old names.1) (S.faults shelf.new names.1)
+        → ¬ HasRisen (K.faults sink.old) (K.faults sink.new)
+        → (result ≡ Status.Done) ⊎ (result ≡ Status.Memory))) }
 
     // Nothing is put unless the answer is Done, Sink or Memory; then a front of the report at most.
     ensures unput { result ≢ Status.Done → result ≢ Status.Sink → result ≢ Status.Memory
         → (K.got sink.new ≡ K.got sink.old) × (K.faults sink.new ≡ K.faults sink.old) }
-    ensures front { result ≡ Status.Sink → IfRun words.now (S.holds shelf.old) (λ image script. PutsFront image script (K.got sink.old) (K.got sink.new)) }
-    ensures front_or_none { result ≡ Status.Memory → IfRun words.now (S.holds shelf.old) (λ image script.
-        (K.got sink.new ≡ K.got sink.old) ⊎ PutsFront image script (K.got sink.old) (K.got sink.new)) }
+    ensures front { result ≡ Status.Sink
+        → IfRun words.now (S.holds shelf.old)
+        (λ image script. PutsFront image script (K.got sink.old) (K.got sink.new)) }
+    ensures front_or_none { result ≡ Status.Memory
+        → IfRun words.now (S.holds shelf.old)
+        (λ image script. (K.got sink.new ≡ K.got sink.old)
+        ⊎ PutsFront image script (K.got sink.old) (K.got sink.new)) }
 
     // What the shelf holds stays, and no count falls.
     ensures holds { S.holds shelf.new ≡ S.holds shelf.old }
     ensures counts { (other : List ℕ) → S.faults shelf.old other ≤ S.faults shelf.new other }
 {
     runs_are_determined();
-    let Some((image_name, script_name)) = read_words(words) else {
+    let Some((image_name, script_name)) = names_of_run(words) else {
         return Status::Words;
     };
     match run(alloc, image_name, script_name, shelf, sink) {

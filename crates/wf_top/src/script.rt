@@ -1,7 +1,7 @@
 //! Plain scripts.
 ghost use Rattle.std.specs.Prelude.{◌≡◌, ◌≤◌, ℕ, List, IfOk, IsErrAnd, MatchOption, MatchResult, Some, None};
-ghost use Rattle.wf_top.specs.PlainLines.{number_from, line_at};
-ghost use Rattle.wf_top.specs.PlainScript.{IsScript, IsScriptFault, IsFaultAt};
+ghost use Rattle.wf_top.specs.PlainLines.{number_from, line_at, IsFaultAt};
+ghost use Rattle.wf_top.specs.PlainScript.{IsScript, IsScriptFault};
 
 use std::alloc::{AllocError, AllocFailed, Global};
 
@@ -48,9 +48,10 @@ impl<T: Drop> From<AllocFailed<T>> for ScriptFault {
 // The number from 1 to the most whose digits and a newline stand at the front, and what stands
 // behind the newline.
 #[tactic(auto, using(crate::proofs::LineLemmas::number_steps))]
-fn number_at(bytes: &[u8], most: u64) -> Option<(u64, &[u8])>
+fn read_number(bytes: &[u8], most: u64) -> Option<(u64, &[u8])>
     requires { most ≤ 1000000 }
-    ensures { MatchOption result (number_from most 0 bytes.now ≡ None) (λ x. number_from most 0 bytes.now ≡ Some (x.0, x.1.now)) }
+    ensures { MatchOption result (number_from most 0 bytes.now ≡ None)
+        (λ x. number_from most 0 bytes.now ≡ Some (x.0, x.1.now)) }
 {
     let mut number = 0;
     for (i, byte) in bytes.iter().enumerate() {
@@ -75,12 +76,13 @@ fn number_at(bytes: &[u8], most: u64) -> Option<(u64, &[u8])>
 #[tactic(auto, unfolding(crate::specs::PlainLines::line_at))]
 fn line_at(bytes: &[u8], most: u64) -> Option<(u64, &[u8])>
     requires { most ≤ 1000000 }
-    ensures { MatchOption result (line_at most bytes.now ≡ None) (λ x. line_at most bytes.now ≡ Some (x.0, x.1.now)) }
+    ensures { MatchOption result (line_at most bytes.now ≡ None)
+        (λ x. line_at most bytes.now ≡ Some (x.0, x.1.now)) }
 {
     if !bytes.starts_with(b"step h0 ") {
         return None;
     }
-    number_at(&bytes[8..], most)
+    read_number(&bytes[8..], most)
 }
 
 /// The commands of a plain script, in the order of its lines. Each line is `step h0 N` and a
@@ -91,11 +93,14 @@ pub fn read_script(alloc: Global, bytes: &[u8]) -> Result<Vec<Command>, ScriptFa
     // What is read is spelled so.
     ensures found { IfOk result (λ commands. IsScript bytes.now commands.items) }
     // What is spelled so is read, unless memory runs out.
-    ensures only { (commands : List Command) → IsScript bytes.now commands → MatchResult result (λ read. read.items ≡ commands) (λ fault. fault ≡ ScriptFault.Memory) }
+    ensures only { (commands : List Command) → IsScript bytes.now commands
+        → MatchResult result (λ read. read.items ≡ commands) (λ fault. fault ≡ ScriptFault.Memory) }
     // The line of a fault is that of the first one.
-    ensures fault { (line : ℕ) → result ≡ Err (ScriptFault.Line line) → IsScriptFault bytes.now line }
+    ensures fault { (line : ℕ) → result ≡ Err (ScriptFault.Line line)
+        → IsScriptFault bytes.now line }
     // A fault in the bytes is found, unless memory runs out.
-    ensures fault_only { (line : ℕ) → IsScriptFault bytes.now line → IsErrAnd result (λ fault. IsFaultAt fault line) }
+    ensures fault_only { (line : ℕ) → IsScriptFault bytes.now line
+        → IsErrAnd result (λ fault. IsFaultAt fault line) }
 {
     let mut commands = Vec::new(alloc);
     let mut rest = bytes;

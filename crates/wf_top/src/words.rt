@@ -6,7 +6,7 @@ use wf_outside::Text;
 
 /// The names of the image and of the script, where the words are `run IMAGE SCRIPT` and neither
 /// name begins with a dash. The names are of bytes, and need not be UTF-8.
-pub fn read_words(words: &[Text]) -> Option<(&[u8], &[u8])>
+pub fn names_of_run(words: &[Text]) -> Option<(&[u8], &[u8])>
     // What is read are the names of a run.
     ensures some { IfSome result (λ names. run_words words.now ≡ Some (names.0.now, names.1.now)) }
     // Other words are those of no run.

@@ -1,6 +1,6 @@
 use Rattle.std.proofs.Common.{◌≡◌, drop}
-use Rattle.wf_flat.specs.Lists.{IsRising}
-use Rattle.wf_flat.specs.Counts.{places_with}
+use Rattle.wf_outside.specs.Lists.{IsRising}
+use Rattle.wf_flat.specs.Boot.{places_with}
 use Rattle.wf_flat.proofs.counting.add_numbers.Given as goal
 
 abbrev pub invariant-loop-n : goal.invariant-loop-n

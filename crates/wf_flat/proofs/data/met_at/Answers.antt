@@ -4,7 +4,7 @@ use Rattle.std.proofs.lemmas.List.Sorted.{answers_always}
 use Rattle.std.specs.List.{insert}
 use Rattle.std.specs.List.Sorted.{IsBinarySearchResult, IsSearchInRange}
 use Rattle.std.specs.Ordering.{nat_cmp}
-use Rattle.wf_flat.specs.Lists.{IsRising}
+use Rattle.wf_outside.specs.Lists.{IsRising}
 use Rattle.wf_flat.specs.Memory.{met_key, has_met, with_met}
 use Rattle.wf_flat.proofs.FoundLemmas.{key_searched, key_missed, key_inserted, there_is}
 use Rattle.wf_flat.proofs.data.met_at.Goals as goal

@@ -4,7 +4,7 @@ use Rattle.std.specs.List.Sorted.{IsBinarySearchResult, IsSearchInRange}
 use Rattle.std.specs.Ordering.{nat_cmp}
 use Rattle.std.specs.Result.{result_ok}
 use Rattle.wf_flat.specs.State.{PageState}
-use Rattle.wf_flat.specs.Lists.{IsRising}
+use Rattle.wf_outside.specs.Lists.{IsRising}
 use Rattle.wf_flat.specs.Memory.{data_in}
 use Rattle.wf_flat.specs.Ordered.{page_numbers}
 use Rattle.wf_flat.proofs.FoundLemmas.{key_searched, key_missed}

@@ -6,7 +6,7 @@ use Rattle.wf_flat.proofs.data.take_in.Goals as goal
 
 pub returns-in-Some : goal.returns-in-Some
 returns-in-Some c =
-    changed_found (λ (p : PageState). p.number) (taken_by c.args.h) c.args.pages.now c.args.number c.in-Some.at c.index-pages-at.result c.take.new.self c.requires c.in-Some.ensures.0 c.in-Some.ensures.1 c.take.ensures
+    changed_found (λ (p : PageState). p.number) (taken_by c.args.hart) c.args.pages.now c.args.number c.in-Some.at c.index-pages-at.result c.take.new.self c.requires c.in-Some.ensures.0 c.in-Some.ensures.1 c.take.ensures
 
 pub returns-in_default : goal.returns-in_default
-returns-in_default c = sym (changed_none (λ (p : PageState). p.number) (taken_by c.args.h) c.args.pages.now c.args.number c.in_default.ensures)
+returns-in_default c = sym (changed_none (λ (p : PageState). p.number) (taken_by c.args.hart) c.args.pages.now c.args.number c.in_default.ensures)

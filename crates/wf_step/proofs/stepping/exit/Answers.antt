@@ -8,11 +8,11 @@ use Rattle.wf_step.proofs.stepping.exit.Goals as goal
 
 pub returns-clause-made : goal.returns-clause-made
 returns-clause-made c = λ s before b.
-    call_made s c.args.flat.now c.exit.new.self before c.args.journal.now.items c.note-2.new.journal.items c.args.h (Exit c.args.code) b c.requires.acts.no_one c.requires.ready (λ m. refl) refl refl
-    (c.exit.ensures.state ∙ ap (λ (s : FlatState). flat_after s (Hart c.args.h) (Exit c.args.code)) c.enter.ensures)
-    (rw (c.note-2.ensures.items, c.note.ensures.items) refl)
+    call_made s c.args.flat.now c.exit.new.self before c.args.journal.now.items c.append-2.new.journal.items c.args.hart (Exit c.args.code) b c.requires.acts.no_one c.requires.ready (λ m. refl) refl refl
+    (c.exit.ensures.state ∙ ap (λ (s : FlatState). flat_after s (Hart c.args.hart) (Exit c.args.code)) c.enter.ensures)
+    (rw (c.append-2.ensures.items, c.append.ensures.items) refl)
 
 pub returns-clause-rests : goal.returns-clause-rests
 returns-clause-rests c =
-    call_rests c.args.flat.now c.exit.new.self c.args.h (exited_with c.args.code) c.requires.acts
-    (c.exit.ensures.state ∙ ap (λ (s : FlatState). flat_after s (Hart c.args.h) (Exit c.args.code)) c.enter.ensures) (λ hart. refl)
+    call_rests c.args.flat.now c.exit.new.self c.args.hart (exited_with c.args.code) c.requires.acts
+    (c.exit.ensures.state ∙ ap (λ (s : FlatState). flat_after s (Hart c.args.hart) (Exit c.args.code)) c.enter.ensures) (λ hart. refl)

@@ -6,11 +6,11 @@ use Rattle.wf_step.proofs.stepping.fetch.Goals as goal
 
 pub returns-clause-made : goal.returns-clause-made
 returns-clause-made c = λ s before b.
-    fetch_made s c.args.flat.now c.fetch.new.self before c.args.journal.now.items c.note.new.journal.items c.args.h c.args.pc c.args.word b c.requires.acts.no_one c.requires.ready c.fetch.ensures.state c.note.ensures.items
+    fetch_made s c.args.flat.now c.fetch.new.self before c.args.journal.now.items c.append.new.journal.items c.args.hart c.args.pc c.args.word b c.requires.acts.no_one c.requires.ready c.fetch.ensures.state c.append.ensures.items
 
 pub returns-clause-acts : goal.returns-clause-acts
-returns-clause-acts c = fetch_acts c.args.flat.now c.fetch.new.self c.args.h c.args.pc c.args.word c.requires.acts c.fetch.ensures.state
+returns-clause-acts c = fetch_acts c.args.flat.now c.fetch.new.self c.args.hart c.args.pc c.args.word c.requires.acts c.fetch.ensures.state
 
 pub returns-clause-meets : goal.returns-clause-meets
-returns-clause-meets c = λ deed met t.
-    to_meet_kept c.args.flat.now c.fetch.new.self c.args.h c.args.word deed met c.fetch.ensures.hart (ap (λ (f : FlatState). f.pages) c.fetch.ensures.state) (ap (λ (f : FlatState). f.met) c.fetch.ensures.state) t
+returns-clause-meets c = λ action met t.
+    to_meet_kept c.args.flat.now c.fetch.new.self c.args.hart c.args.word action met c.fetch.ensures.hart (ap (λ (f : FlatState). f.pages) c.fetch.ensures.state) (ap (λ (f : FlatState). f.met) c.fetch.ensures.state) t

@@ -8,18 +8,18 @@ use Rattle.wf_step.proofs.StepLemmas.{entry, call_made_of_two, call_rests_of_two
 use Rattle.wf_step.proofs.stepping.put_byte.Goals as goal
 
 pub end-requires-clause-held : goal.end-requires-clause-held
-end-requires-clause-held c = rw (c.out.ensures.state, c.enter.ensures) (none_held_of_two (flat_after c.args.flat.now (Hart c.args.h) Enter) c.args.h (0) c.requires.call)
+end-requires-clause-held c = rw (c.out.ensures.state, c.enter.ensures) (none_held_of_two (flat_after c.args.flat.now (Hart c.args.hart) Enter) c.args.hart (0) c.requires.call)
 
 pub returns-clause-made : goal.returns-clause-made
 returns-clause-made c = λ s before b.
-    call_made_of_two s c.args.flat.now c.end.new.self before c.args.journal.now.items c.note-3.new.journal.items c.args.h (Out c.args.byte) (End c.args.next.pc) b c.requires.acts.no_one (and_first _ _ _ c.requires.ready)
+    call_made_of_two s c.args.flat.now c.end.new.self before c.args.journal.now.items c.append-3.new.journal.items c.args.hart (Out c.args.byte) (End c.args.next.pc) b c.requires.acts.no_one (and_first _ _ _ c.requires.ready)
     (λ m. refl) refl refl refl (λ m. refl) refl refl
-    (c.end.ensures.state ∙ ap (λ (s : FlatState). flat_after s (Hart c.args.h) (End c.args.next.pc)) (c.out.ensures.state ∙ ap (λ (s : FlatState). flat_after s (Hart c.args.h) (Out c.args.byte)) c.enter.ensures))
-    (rw (c.note-3.ensures.items, c.note-2.ensures.items, c.note.ensures.items)
-    (ap (λ (a : ArchState). ((c.args.journal.now.items ++ entry c.args.h Enter ∷ []) ++ entry c.args.h (Out c.args.byte) ∷ []) ++ entry c.args.h (End a.pc) ∷ []) c.next.view_is))
+    (c.end.ensures.state ∙ ap (λ (s : FlatState). flat_after s (Hart c.args.hart) (End c.args.next.pc)) (c.out.ensures.state ∙ ap (λ (s : FlatState). flat_after s (Hart c.args.hart) (Out c.args.byte)) c.enter.ensures))
+    (rw (c.append-3.ensures.items, c.append-2.ensures.items, c.append.ensures.items)
+    (ap (λ (a : ArchState). ((c.args.journal.now.items ++ entry c.args.hart Enter ∷ []) ++ entry c.args.hart (Out c.args.byte) ∷ []) ++ entry c.args.hart (End a.pc) ∷ []) c.next.view_is))
 
 pub returns-clause-rests : goal.returns-clause-rests
 returns-clause-rests c =
-    call_rests_of_two c.args.flat.now c.end.new.self c.args.h (answered (0)) ended c.requires.acts
-    (c.end.ensures.state ∙ ap (λ (s : FlatState). flat_after s (Hart c.args.h) (End c.args.next.pc)) (c.out.ensures.state ∙ ap (λ (s : FlatState). flat_after s (Hart c.args.h) (Out c.args.byte)) c.enter.ensures)
-    ∙ call_end_of_two (flat_after c.args.flat.now (Hart c.args.h) Enter) c.args.h c.args.next.pc (0) c.requires.call) (λ hart. refl)
+    call_rests_of_two c.args.flat.now c.end.new.self c.args.hart (answered (0)) ended c.requires.acts
+    (c.end.ensures.state ∙ ap (λ (s : FlatState). flat_after s (Hart c.args.hart) (End c.args.next.pc)) (c.out.ensures.state ∙ ap (λ (s : FlatState). flat_after s (Hart c.args.hart) (Out c.args.byte)) c.enter.ensures)
+    ∙ call_end_of_two (flat_after c.args.flat.now (Hart c.args.hart) Enter) c.args.hart c.args.next.pc (0) c.requires.call) (λ hart. refl)

@@ -6,15 +6,15 @@ use Rattle.wf_step.proofs.CarryLemmas.{fault_ready, word_ready}
 use Rattle.wf_step.proofs.stepping.step.Goals as goal
 
 pub trap-requires-clause-acts : goal.trap-requires-clause-acts
-trap-requires-clause-acts c = rest_acts c.args.flat.now c.args.h c.requires.rests
+trap-requires-clause-acts c = rest_acts c.args.flat.now c.args.hart c.requires.rests
 
 pub trap-requires-clause-ready : goal.trap-requires-clause-ready
-trap-requires-clause-ready c = fault_ready c.args.flat.now c.args.h c.in-Fault.pc c.requires.rests c.in-Fault.ensures
+trap-requires-clause-ready c = fault_ready c.args.flat.now c.args.hart c.in-Fault.pc c.requires.rests c.in-Fault.ensures
 
 pub try_word-requires-clause-ready : goal.try_word-requires-clause-ready
-try_word-requires-clause-ready c = word_ready c.args.flat.now c.args.h c.in-Word.word c.in-Word.arch c.requires.rests c.in-Word.ensures
+try_word-requires-clause-ready c = word_ready c.args.flat.now c.args.hart c.in-Word.word c.in-Word.arch c.requires.rests c.in-Word.ensures
 
 pub returns-in-Fault-clause-ok : goal.returns-in-Fault-clause-ok
 returns-in-Fault-clause-ok c =
     c.trap.ensures.made c.args.flat.now c.args.journal.now.items
-    (subst (λ (items : List Entry). Begins c.args.flat.now c.args.journal.now.items c.args.flat.now items c.args.h) (sym c.reserve.ensures.items) (begins c.args.flat.now c.args.journal.now.items c.args.h))
+    (subst (λ (items : List Entry). Begins c.args.flat.now c.args.journal.now.items c.args.flat.now items c.args.hart) (sym c.reserve.ensures.items) (begins c.args.flat.now c.args.journal.now.items c.args.hart))

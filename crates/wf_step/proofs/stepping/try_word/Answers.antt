@@ -7,11 +7,11 @@ use Rattle.wf_step.proofs.stepping.try_word.Goals as goal
 pub returns-in_default-clause-unbuilt : goal.returns-in_default-clause-unbuilt
 returns-in_default-clause-unbuilt c = λ pc e.
     let same : c.args.arch.now.pc ≡ pc = search rules in
-    subst (IsUnbuilt c.args.flat.now c.args.h) same (meets_unbuilt_word c.args.flat.now c.args.h c.args.word c.args.arch.now c.requires.ready (λ hart a. c.deed_of.ensures.none hart a c.in_default.is))
+    subst (IsUnbuilt c.args.flat.now c.args.hart) same (meets_unbuilt_word c.args.flat.now c.args.hart c.args.word c.args.arch.now c.requires.ready (λ hart a. c.action_of.ensures.none hart a c.in_default.is))
 
 pub fetch-requires-clause-acts : goal.fetch-requires-clause-acts
-fetch-requires-clause-acts c = rest_acts c.args.flat.now c.args.h c.requires.rests
+fetch-requires-clause-acts c = rest_acts c.args.flat.now c.args.hart c.requires.rests
 
 pub returns-clause-ok : goal.returns-clause-ok
 returns-clause-ok c =
-    c.carry_out.ensures.made c.args.flat.now c.args.journal.now.items (c.fetch.ensures.made c.args.flat.now c.args.journal.now.items (begins c.args.flat.now c.args.journal.now.items c.args.h))
+    c.carry_out.ensures.made c.args.flat.now c.args.journal.now.items (c.fetch.ensures.made c.args.flat.now c.args.journal.now.items (begins c.args.flat.now c.args.journal.now.items c.args.hart))

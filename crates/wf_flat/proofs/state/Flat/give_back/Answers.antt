@@ -11,4 +11,4 @@ returns-in-Some-clause-numbers c = rw c.give_page.ensures (change_numbers c.args
 
 pub returns-in-Some-clause-state : goal.returns-in-Some-clause-state
 returns-in-Some-clause-state c =
-    c.give_page.ensures ∙ given_some c.args.self.now c.args.h c.in-Some.page c.has_put-put.result c.requires.alone (hart_there c.args.self.now c.args.h _ c.requires.held) (rw c.in-Some.is at c.requires.held) c.has_put-put.ensures
+    c.give_page.ensures ∙ given_some c.args.self.now c.args.hart c.in-Some.page c.has_put-put.result c.requires.alone (hart_there c.args.self.now c.args.hart _ c.requires.held) (rw c.in-Some.is at c.requires.held) c.has_put-put.ensures

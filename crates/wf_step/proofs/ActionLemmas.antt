@@ -12,7 +12,7 @@ use Rattle.rv_inst.specs.Arch.{ArchState}
 use Rattle.rv_inst.specs.Meanings.{want_of, to_jump, aligned, at_offset, jalr_target, atomic_width}
 use Rattle.rv_inst.specs.Rows.{load_code, store_code}
 use Rattle.rv_inst.specs.Spelling.{IsSpelled}
-use Rattle.wf_flat.specs.Memory.{IsPlace}
+use Rattle.wf_flat.specs.Serving.{IsPlace}
 use Rattle.wf_flat.specs.Accesses.{Access, access_of}
 
 abbrev is_call : Want → Bool

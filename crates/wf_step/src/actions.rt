@@ -1,16 +1,17 @@
 //! What a hart is to do with a word.
 ghost use Rattle.std.specs.Prelude.{◌≡◌, ◌≢◌, IfSome, None, Some, ℕ, false, slice_index};
+ghost use Rattle.rv_inst.specs.declared.causes.TheConstants.{ILLEGAL_INSTRUCTION};
 ghost use Rattle.rv_inst.specs.Decoding.{inst_of};
 ghost use Rattle.rv_inst.specs.Spelling.{IsSpelled};
 ghost use Rattle.rv_inst.specs.Meanings.{want_of, meaning_of};
 ghost use Rattle.wf_flat.specs.Unbuilt as built;
 ghost use Rattle.wf_flat.specs.State.{HartState};
 ghost use Rattle.wf_flat.specs.Unbuilt.{IsUnbuiltInst};
-ghost use Rattle.wf_step.specs.Stepping.{IsDeed};
+ghost use Rattle.wf_step.specs.Stepping.{IsAction};
 
-use crate::causes::ILLEGAL_INSTRUCTION;
 use rv_alu::AmoOp;
 use rv_hart::{finish, plan};
+use rv_inst::causes::ILLEGAL_INSTRUCTION;
 use rv_inst::{Arch, Inst, Want, decode};
 
 /// What an instruction reads or writes.
@@ -37,7 +38,7 @@ pub enum Write {
 
 /// What a hart does with the word that it fetched.
 #[derive(Clone, Copy, Debug, PartialEq, Eq)]
-pub enum Deed {
+pub enum Action {
     /// The instruction wants nothing, and leaves these registers.
     Run { next: Arch },
     /// It reads, and reserves what it reads where it is a load-reserved.
@@ -57,33 +58,34 @@ pub enum Deed {
 }
 
 /// What a hart with these registers does with a word; `None` where it is not built.
-#[tactic(auto, using(crate::proofs::DeedLemmas::places))]
-pub fn deed_of(arch: &Arch, word: u32) -> Option<Deed>
-    ensures deed { IfSome result (λ deed. IsDeed arch.now word deed) }
-    ensures none { (hart : HartState) → hart.arch ≡ arch.now → result ≡ None → IsUnbuiltInst hart (inst_of word) }
+#[tactic(auto, using(crate::proofs::ActionLemmas::places))]
+pub fn action_of(arch: &Arch, word: u32) -> Option<Action>
+    ensures action { IfSome result (λ action. IsAction arch.now word action) }
+    ensures none { (hart : HartState) → hart.arch ≡ arch.now → result ≡ None
+        → IsUnbuiltInst hart (inst_of word) }
 {
     let Some(inst) = decode(word) else {
         return Some(illegal(word));
     };
     match plan(arch, inst) {
-        Want::Nothing => Some(Deed::Run {
+        Want::Nothing => Some(Action::Run {
             next: arch_after(arch, inst),
         }),
-        Want::Trap { cause, value } => Some(Deed::Trap { cause, value }),
+        Want::Trap { cause, value } => Some(Action::Trap { cause, value }),
         Want::Call => call_of(arch),
-        Want::Look { va, width } => Some(Deed::Load {
+        Want::Look { va, width } => Some(Action::Load {
             operand: Operand { inst, va, width },
             reserving: false,
         }),
-        Want::Reserve { va, width } => Some(Deed::Load {
+        Want::Reserve { va, width } => Some(Action::Load {
             operand: Operand { inst, va, width },
             reserving: true,
         }),
-        Want::Put { va, width, value } => Some(Deed::Store {
+        Want::Put { va, width, value } => Some(Action::Store {
             operand: Operand { inst, va, width },
             write: Write::Put { value },
         }),
-        Want::PutIf { va, width, value } => Some(Deed::Store {
+        Want::PutIf { va, width, value } => Some(Action::Store {
             operand: Operand { inst, va, width },
             write: Write::PutIf { value },
         }),
@@ -92,7 +94,7 @@ pub fn deed_of(arch: &Arch, word: u32) -> Option<Deed>
             width,
             op,
             value,
-        } => Some(Deed::Store {
+        } => Some(Action::Store {
             operand: Operand { inst, va, width },
             write: Write::Swap { op, value },
         }),
@@ -100,10 +102,10 @@ pub fn deed_of(arch: &Arch, word: u32) -> Option<Deed>
 }
 
 // The trap of a word that is no instruction.
-fn illegal(word: u32) -> Deed
-    ensures { result ≡ Deed.Trap 2 word }
+fn illegal(word: u32) -> Action
+    ensures { result ≡ Action.Trap ILLEGAL_INSTRUCTION word }
 {
-    Deed::Trap {
+    Action::Trap {
         cause: ILLEGAL_INSTRUCTION,
         value: u64::from(word),
     }
@@ -131,18 +133,19 @@ pub fn finished(arch: &Arch, inst: Inst, got: u64) -> Arch
 }
 
 // What a call is to do, by its number in a7.
-fn call_of(arch: &Arch) -> Option<Deed>
-    ensures deed { (word : ℕ) → inst_of word ≡ Some Inst.Ecall → IfSome result (λ deed. IsDeed arch.now word deed) }
+fn call_of(arch: &Arch) -> Option<Action>
+    ensures action { (word : ℕ) → inst_of word ≡ Some Inst.Ecall
+        → IfSome result (λ action. IsAction arch.now word action) }
     ensures none { result ≡ None → built.is_built_call (slice_index arch.now.x 17) ≡ false }
 {
     let first = arch.x[10];
     match arch.x[17] {
-        0 => Some(Deed::Exit { code: first }),
-        1 => Some(Deed::Out {
+        0 => Some(Action::Exit { code: first }),
+        1 => Some(Action::Out {
             byte: (first % 256) as u8,
         }),
-        4 => Some(Deed::OwnGeneration),
-        number if number > 8 => Some(Deed::Refuse { number }),
+        4 => Some(Action::OwnGeneration),
+        number if number > 8 => Some(Action::Refuse { number }),
         _ => None,
     }
 }

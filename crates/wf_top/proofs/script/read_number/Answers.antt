@@ -1,7 +1,7 @@
 use Rattle.std.proofs.Common.{◌+◌, ap, sym, ◌∙◌, Some, ℕ, List, arith}
 use Rattle.std.proofs.lemmas.List.{take_rest}
 use Rattle.wf_top.proofs.LineLemmas.{number_ends}
-use Rattle.wf_top.proofs.script.number_at.Goals as goal
+use Rattle.wf_top.proofs.script.read_number.Goals as goal
 
 pub returns-then-byte-eq10 : goal.returns-then-byte-eq10
 returns-then-byte-eq10 c =

@@ -1,6 +1,6 @@
 use Rattle.std.proofs.Common.{◌≡◌, ◌≤◌, drop}
 use Rattle.wf_top.specs.PlainLines.{number_from}
-use Rattle.wf_top.proofs.script.number_at.Given as goal
+use Rattle.wf_top.proofs.script.read_number.Given as goal
 
 abbrev pub invariant-loop-i : goal.invariant-loop-i
 invariant-loop-i l = record {
