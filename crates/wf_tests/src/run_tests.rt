@@ -1,0 +1,197 @@
+//! Runs of one small program: what is answered and put for words, scripts and files, also where reads or puts fail.
+use crate::runs::{answer, files_of, run, unbuilt, words_of};
+use crate::small_images::{TEXT, plain_image, report_with};
+use std::test::Fail;
+use wf_outside::{LimitKind, MemShelf, MemSink, Shelf, ShelfFault, Status, Unbuilt};
+use wf_top::top;
+
+// The report of the empty script.
+const START: &str = "wfpatch run 1
+harts 1
+frames 1024
+= hart 0 gen 0 pc 10000 running
+= regs 0 0 3e00010000 0 0 0 0 0 0 0 0 0 0 0 0 0 0 0 0 0 0 0 0 0 0 0 0 0 0 0 0 0
+= gen 0 parent - live patches 0
+= page 3e0000c rw here writes 0
+= page 3e0000d rw here writes 0
+= page 3e0000e rw here writes 0
+= page 3e0000f rw here writes 0
+";
+
+#[test]
+fn runs(rt: HostRuntime) -> Result<(), Fail> {
+    let alloc = rt.alloc();
+    let image = plain_image(alloc, &TEXT)?;
+    let (status, got) = run(alloc, &image, "")?;
+    assert_eq!(rt; status, Status::Done);
+    assert_eq!(rt; str::from_utf8(&got)?, START);
+    for (script, idles) in [("step h0 3\n", 0), ("step h0 3\nstep h0 1\n", 1)] {
+        let (status, got) = run(alloc, &image, script)?;
+        let want = report_with(alloc, idles)?;
+        assert_eq!(rt; status, Status::Done, "{script}");
+        assert_eq!(rt; str::from_utf8(&got)?, str::from_utf8(&want)?, "{script}");
+    }
+    Ok(())
+}
+
+#[test]
+fn broken_scripts(rt: HostRuntime) -> Result<(), Fail> {
+    let alloc = rt.alloc();
+    let image = plain_image(alloc, &TEXT)?;
+    for (script, line) in [
+        ("step h1 1\n", 1),
+        ("walk h0 1\n", 1),
+        ("step h0 0\n", 1),
+        ("step h0 01\n", 1),
+        ("step h0 +1\n", 1),
+        ("step h0 1000001\n", 1),
+        ("step  h0 1\n", 1),
+        ("step h0 1 \n", 1),
+        (" step h0 1\n", 1),
+        ("step h0 1", 1),
+        ("step h0 1\r\n", 1),
+        ("step h0 1\n\n", 2),
+        ("step h0 3\n# x\n", 2),
+        ("step h0 1000000\nstep h0 1\n", 2),
+        ("step h0 999999\nstep h0 2\n", 2),
+    ] {
+        let (status, got) = run(alloc, &image, script)?;
+        assert_eq!(rt; status, unbuilt(Unbuilt::Script { line }), "{script}");
+        assert!(rt; got.is_empty(), "{script}");
+    }
+    Ok(())
+}
+
+#[test]
+fn longest_scripts(rt: HostRuntime) -> Result<(), Fail> {
+    let alloc = rt.alloc();
+    let image = plain_image(alloc, &TEXT)?;
+    let want = report_with(alloc, 999_997)?;
+    for script in ["step h0 1000000\n", "step h0 999999\nstep h0 1\n"] {
+        let (status, got) = run(alloc, &image, script)?;
+        assert_eq!(rt; status, Status::Done, "{script}");
+        assert!(rt; got.as_slice() == want.as_slice(), "{script}");
+    }
+    Ok(())
+}
+
+#[test]
+fn unbuilt_steps(rt: HostRuntime) -> Result<(), Fail> {
+    let alloc = rt.alloc();
+    let there = unbuilt(Unbuilt::Step { pc: 0x1_0004 });
+    for (number, status, is_empty) in [
+        (0, Status::Done, false),
+        (1, Status::Done, false),
+        (2, there, true),
+        (3, there, true),
+        (4, Status::Done, false),
+        (5, there, true),
+        (6, there, true),
+        (7, there, true),
+        (8, there, true),
+        (9, Status::Done, false),
+        (10, Status::Done, false),
+        (2047, Status::Done, false),
+    ] {
+        // addi x17, x0, N; ecall
+        let image = plain_image(alloc, &[0x0000_0893 | (number << 20), 0x0000_0073])?;
+        let (answered, got) = run(alloc, &image, "step h0 2\n")?;
+        assert_eq!(rt; answered, status, "{number}");
+        assert_eq!(rt; got.is_empty(), is_empty, "{number}");
+        let (answered, _) = run(alloc, &image, "step h0 1\n")?;
+        assert_eq!(rt; answered, Status::Done, "{number}");
+    }
+    Ok(())
+}
+
+#[test]
+fn other_words(rt: HostRuntime) -> Result<(), Fail> {
+    let alloc = rt.alloc();
+    let image = plain_image(alloc, &TEXT)?;
+    let lines: [&[&str]; 9] = [
+        &[],
+        &["run"],
+        &["run", "a"],
+        &["run", "a", "b", "c"],
+        &["walk", "a", "b"],
+        &["run", "-a", "b"],
+        &["run", "a", "-b"],
+        &["run", "-a", "-b"],
+        &["Run", "a", "b"],
+    ];
+    for line in lines {
+        let files = files_of(alloc, &image, b"step h0 3\n")?;
+        let mut shelf = MemShelf::new(alloc, files, vec![in alloc; 0]?);
+        let mut sink = MemSink::new(alloc, Vec::new(alloc));
+        let status = top(alloc, &words_of(alloc, line)?, &mut shelf, &mut sink);
+        assert_eq!(rt; status, Status::Words, "{line:?}");
+        assert!(rt; sink.got().is_empty(), "{line:?}");
+        // No read came before: this one has number 0, and fails.
+        assert_eq!(rt;
+            shelf.read(b"a", 8192).err(),
+            Some(ShelfFault::Failed),
+            "{line:?}"
+        );
+    }
+    Ok(())
+}
+
+#[test]
+fn failing_reads(rt: HostRuntime) -> Result<(), Fail> {
+    let alloc = rt.alloc();
+    let image = plain_image(alloc, &TEXT)?;
+    for (line, read) in [
+        (["run", "a", "b"], 0),
+        (["run", "a", "b"], 1),
+        (["run", "c", "b"], 9),
+        (["run", "a", "c"], 9),
+    ] {
+        let files = files_of(alloc, &image, b"step h0 3\n")?;
+        let (status, got) = answer(alloc, &line, files, &[read], &[])?;
+        assert_eq!(rt; status, Status::Shelf, "{line:?} {read}");
+        assert!(rt; got.is_empty(), "{line:?} {read}");
+    }
+    Ok(())
+}
+
+#[test]
+fn long_files(rt: HostRuntime) -> Result<(), Fail> {
+    let alloc = rt.alloc();
+    let image = plain_image(alloc, &TEXT)?;
+    let long = vec![in alloc; b'x'; 67_108_865]?;
+    let limit = Status::Limit {
+        what: LimitKind::File,
+        number: 67_108_865,
+        most: 67_108_864,
+    };
+    for (image, script) in [(&long, b"step h0 3\n".as_slice()), (&image, &long)] {
+        let files = files_of(alloc, image, script)?;
+        let (status, got) = answer(alloc, &["run", "a", "b"], files, &[], &[])?;
+        assert_eq!(rt; status, limit);
+        assert!(rt; got.is_empty());
+    }
+    Ok(())
+}
+
+#[test]
+fn failing_puts(rt: HostRuntime) -> Result<(), Fail> {
+    let alloc = rt.alloc();
+    let image = plain_image(alloc, &TEXT)?;
+    let want = report_with(alloc, 19_997)?;
+    assert!(rt; 131_072 < want.len());
+    assert!(rt; want.len() < 196_608);
+    let half = (want.len() - 131_072) / 2;
+    for (put, status, length) in [
+        (0, Status::Sink, 32_768),
+        (1, Status::Sink, 98_304),
+        (2, Status::Sink, 131_072 + half),
+        (3, Status::Done, want.len()),
+    ] {
+        let files = files_of(alloc, &image, b"step h0 20000\n")?;
+        let (answered, got) = answer(alloc, &["run", "a", "b"], files, &[], &[put])?;
+        assert_eq!(rt; answered, status, "{put}");
+        assert_eq!(rt; got.len(), length, "{put}");
+        assert!(rt; want.starts_with(&got), "{put}");
+    }
+    Ok(())
+}
