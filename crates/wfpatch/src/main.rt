@@ -2,10 +2,10 @@
 #![tactic(auto)]
 
 use std::alloc::Global;
+use std::io;
 use std::process::ExitCode;
 use std::rt::{Env, Files};
-use std::{io, str};
-use wf_outside::{FsShelf, Memory, Status, StdSink, Text};
+use wf_outside::{FsShelf, Status, StdSink, Text};
 use wf_top::top;
 
 // The words of the command line behind the program's name. A word that isn't UTF-8 is a faulty
@@ -42,12 +42,10 @@ fn tell(rt: &impl Eprint, alloc: Global, status: Status) {
     if status == Status::Done {
         return;
     }
-    let line = status.line(alloc);
-    let text = match &line {
-        Ok(line) => str::from_utf8(line.bytes()).unwrap_or("wfpatch: memory"),
-        Err(Memory) => "wfpatch: memory",
+    let _ = match format!(in alloc; "{status}") {
+        Ok(line) => eprintln!(rt; "{line}"),
+        Err(_) => eprintln!(rt; "wfpatch: memory"),
     };
-    let _ = eprintln!(rt; "{text}");
 }
 
 fn main(rt: HostRuntime) -> ExitCode {
