@@ -48,7 +48,9 @@ jump_words v = (word_of (first_inst v), word_of (second_inst v))
 
 -- the eight bytes of the jump, the lowest of each word first
 abbrev pub jump_bytes : ℕ → ℕ → List ℕ
-jump_bytes from to = let words = jump_words (distance from to) in to_le_bytes w32 words.0 ++ to_le_bytes w32 words.1
+jump_bytes from to =
+    let words = jump_words (distance from to) in
+    to_le_bytes w32 words.0 ++ to_le_bytes w32 words.1
 
 -- The four bytes are an instruction that wants this of its hart and takes it from one state to
 -- another.

@@ -4,7 +4,7 @@
 ghost use Rattle.std.specs.Prelude.{◌<◌, ◌^◌};
 ghost use Rattle.std.specs.Option.{SomeIff};
 ghost use Rattle.rv_inst.specs.Spelling.{FitsR, FitsI, FitsShift, FitsS, FitsB, FitsU, FitsJ, low_bits};
-ghost use Rattle.rv_inst.specs.Spelling.{word_r, word_i, word_s, word_b, word_u, word_j, word_shift_64, word_shift_32};
+ghost use Rattle.rv_inst.specs.Spelling.{word_r, word_i, word_s, word_b, word_u, word_j, shift_64, shift_32};
 
 use crate::ranges::{amount, multiple, number, register};
 use rv_inst::bits;
@@ -34,7 +34,7 @@ pub fn format_i(opcode: u32, funct3: u32, rd: u8, rs1: u8, imm: i64) -> Option<u
 /// Format I of a shift of 64 bits: two registers and an amount, with the six bits above it.
 pub fn shift_64(opcode: u32, funct3: u32, funct6: u32, rd: u8, rs1: u8, imm: i64) -> Option<u32>
     requires { (opcode < 2 ^ 7) × (funct3 < 2 ^ 3) × (funct6 < 2 ^ 6) }
-    ensures { SomeIff result (FitsShift 64 rd rs1 imm) (word_shift_64 opcode funct3 funct6 rd rs1 imm) }
+    ensures { SomeIff result (FitsShift 64 rd rs1 imm) (shift_64 opcode funct3 funct6 rd rs1 imm) }
 {
     let rd = register(rd)?;
     let rs1 = register(rs1)?;
@@ -45,7 +45,7 @@ pub fn shift_64(opcode: u32, funct3: u32, funct6: u32, rd: u8, rs1: u8, imm: i64
 /// Format I of a shift of 32 bits: two registers and an amount, with funct7 above it.
 pub fn shift_32(opcode: u32, funct3: u32, funct7: u32, rd: u8, rs1: u8, imm: i64) -> Option<u32>
     requires { (opcode < 2 ^ 7) × (funct3 < 2 ^ 3) × (funct7 < 2 ^ 7) }
-    ensures { SomeIff result (FitsShift 32 rd rs1 imm) (word_shift_32 opcode funct3 funct7 rd rs1 imm) }
+    ensures { SomeIff result (FitsShift 32 rd rs1 imm) (shift_32 opcode funct3 funct7 rd rs1 imm) }
 {
     let rd = register(rd)?;
     let rs1 = register(rs1)?;

@@ -109,18 +109,18 @@ abbrev pub word_j : ℕ → ℕ → ℕ → ℕ
 word_j op rd n = n / 2 ^ 20 * 2 ^ 31 + n / 2 % 2 ^ 10 * 2 ^ 21 + n / 2 ^ 11 % 2 * 2 ^ 20 + n / 2 ^ 12 % 2 ^ 8 * 2 ^ 12 + rd * 2 ^ 7 + op
 
 -- the word of a shift of 64 bits: its amount stands below the six bits of funct6
-abbrev pub word_shift_64 : ℕ → ℕ → ℕ → ℕ → ℕ → ℤ → ℕ
-word_shift_64 op f3 f6 rd rs1 imm = word_i op f3 rd rs1 (f6 * 2 ^ 6 + unsigned_abs imm)
+abbrev pub shift_64 : ℕ → ℕ → ℕ → ℕ → ℕ → ℤ → ℕ
+shift_64 op f3 f6 rd rs1 imm = word_i op f3 rd rs1 (f6 * 2 ^ 6 + unsigned_abs imm)
 
 -- the word of a shift of 32 bits: its amount stands below the seven bits of funct7
-abbrev pub word_shift_32 : ℕ → ℕ → ℕ → ℕ → ℕ → ℤ → ℕ
-word_shift_32 op f3 f7 rd rs1 imm = word_i op f3 rd rs1 (f7 * 2 ^ 5 + unsigned_abs imm)
+abbrev pub shift_32 : ℕ → ℕ → ℕ → ℕ → ℕ → ℤ → ℕ
+shift_32 op f3 f7 rd rs1 imm = word_i op f3 rd rs1 (f7 * 2 ^ 5 + unsigned_abs imm)
 
 -- the word of an operation on a register and an immediate, by its codes
 abbrev pub word_imm : Option ImmCodes → ℕ → ℕ → ℤ → ℕ
 word_imm (Some (Number op f3)) rd rs1 imm = word_i op f3 rd rs1 (low_bits 12 imm)
-word_imm (Some (Shift64 op f3 f6)) rd rs1 imm = word_shift_64 op f3 f6 rd rs1 imm
-word_imm (Some (Shift32 op f3 f7)) rd rs1 imm = word_shift_32 op f3 f7 rd rs1 imm
+word_imm (Some (Shift64 op f3 f6)) rd rs1 imm = shift_64 op f3 f6 rd rs1 imm
+word_imm (Some (Shift32 op f3 f7)) rd rs1 imm = shift_32 op f3 f7 rd rs1 imm
 word_imm None rd rs1 imm = 0
 
 -- funct7 of an atomic instruction
