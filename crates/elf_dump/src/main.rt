@@ -1,25 +1,35 @@
-//! `elf_dump FILE`: prints what is loaded of an ELF executable, for comparing it with what other tools
-//! say: the entry, the first page behind all, the pages with their rights, the names, and each word that
-//! isn't 0 as its address and its eight bytes in the order of addresses. Addresses are hexadecimal.
+//! `elf_dump FILE`: prints what is loaded of an ELF executable, for comparing it with what other
+//! tools say: the entry, the first page behind all, the pages with their rights, the names, and each
+//! word that isn't 0 as its address and its eight bytes in the order of addresses. Addresses are
+//! hexadecimal. In a name each byte outside 20 to 7e, and the backslash, is `\xNN`. A fault, and
+//! other words than one, are told on the standard error with exit status 1.
 #![tactic(auto)]
+
+mod escaping;
 
 use anyhow::{Result, bail};
 use elf_load::{LoadFault, load};
 use elf_read::{Elf, ElfFault, Kind};
+use escaping::escape;
+use std::alloc::Global;
+use std::io;
 use std::rt::{Env, Files};
-use std::{io, str};
-use wf_outside::{FsShelf, Image, Name, Shelf, ShelfFault};
+use wf_outside::{FsShelf, Image, Name, PAGE_SIZE, PAGE_WORDS, Shelf, ShelfFault};
 
 // `Elf::read` asks for fewer than 2^32 bytes.
 const MOST_BYTES: u64 = 0xFFFF_FFFF;
 
-const PAGE_WORDS: usize = 512;
+const USAGE: &str = "usage: elf_dump FILE";
 
 // The file that the command line names.
 fn file<R: Env + Files + AllocGlobal>(rt: &R) -> Result<Elf> {
-    let Some(name) = std::env::args(rt)?.nth(1) else {
-        bail!("usage: elf_dump FILE");
+    let mut words = std::env::args(rt)?;
+    let Some(name) = words.nth(1) else {
+        bail!("{USAGE}");
     };
+    if words.next().is_some() {
+        bail!("{USAGE}");
+    }
     let bytes = match FsShelf::new(rt, rt.alloc()).read(name.as_bytes(), MOST_BYTES) {
         Ok(bytes) => bytes,
         Err(ShelfFault::Memory) => bail!("memory"),
@@ -41,7 +51,7 @@ fn image<R: Env + Files + AllocGlobal>(rt: &R) -> Result<Image> {
     }
 }
 
-// Where it begins, where it ends, and its pages.
+// Where the image begins, where it ends, and its pages.
 fn print_pages(rt: &impl Print, image: &Image) -> io::Result<()> {
     println!(rt; "entry {:x}", image.entry)?;
     println!(rt; "end {:x}", image.end)?;
@@ -55,11 +65,13 @@ fn print_pages(rt: &impl Print, image: &Image) -> io::Result<()> {
     Ok(())
 }
 
-fn print_names(rt: &impl Print, names: &[Name]) -> io::Result<()> {
+// A line for each name.
+fn print_names(rt: &impl Print, alloc: Global, names: &[Name]) -> Result<()> {
     for name in names {
-        let text = str::from_utf8(name.name.bytes()).unwrap_or("?");
         let binding = if name.global { "global" } else { "local" };
-        println!(rt; "name {:x} {} {binding} {text}", name.addr, name.size)?;
+        print!(rt; "name {:x} {} {binding} ", name.addr, name.size)?;
+        rt.write_all(&escape(alloc, name.name.bytes())?)?;
+        println!(rt; "")?;
     }
     Ok(())
 }
@@ -68,7 +80,7 @@ fn print_names(rt: &impl Print, names: &[Name]) -> io::Result<()> {
 fn print_words(rt: &impl Print, number: u32, words: &[u64]) -> io::Result<()> {
     for (i, word) in words.iter().take(PAGE_WORDS).enumerate() {
         if *word != 0 {
-            let address = 4096 * u64::from(number) + 8 * i as u64;
+            let address = PAGE_SIZE * u64::from(number) + 8 * i as u64;
             println!(rt; "{address:x} {:016x}", word.swap_bytes())?;
         }
     }
@@ -78,7 +90,7 @@ fn print_words(rt: &impl Print, number: u32, words: &[u64]) -> io::Result<()> {
 fn main(rt: HostRuntime) -> Result<()> {
     let image = image(&rt)?;
     print_pages(&rt, &image)?;
-    print_names(&rt, &image.names)?;
+    print_names(&rt, rt.alloc(), &image.names)?;
     for page in &image.text {
         print_words(&rt, page.number, &page.words)?;
     }

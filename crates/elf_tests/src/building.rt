@@ -6,7 +6,8 @@ use std::process::Abort;
 use std::test::Fail;
 
 // The eight bytes at a place, as they stand there.
-fn has_bytes(rt: &impl Abort, bytes: &[u8], at: usize, wanted: u64) {
+fn has_bytes(rt: &impl Abort, bytes: &[u8], at: u16, wanted: u64) {
+    let at = usize::from(at);
     assert_eq!(rt;
         bytes.get(at..at + 8),
         Some(wanted.to_be_bytes().as_slice()),
