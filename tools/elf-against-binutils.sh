@@ -103,7 +103,7 @@ said_by_tools() {
 }
 
 for name in text_only all_kinds many_pages; do
-    $CC $flags -T "$here/plain.ld" -o "$name" "$name.c"
+    $CC $flags -T "$here/image.ld" -o "$name" "$name.c"
     said_by_dump "$name" >"$name.ours"
     said_by_tools "$name" >"$name.theirs"
     if ! cmp -s "$name.ours" "$name.theirs"; then

@@ -1,49 +1,9 @@
-//! What no clause of `wf_outside` says: the literal lines, and that calls succeed where memory is
-//! ample.
+//! What no clause of `wf_outside` says: that calls succeed where memory is ample, and the sizes.
 use std::test::Fail;
 use wf_outside::{
-    ADDRESS_PAGES, DATA_END, DATA_END_PAGE, FsShelf, LimitKind, MOST_BIRTHS, MOST_WRITES, MemShelf,
-    MemSink, PAGE_SIZE, PAGE_WORDS, Shelf, ShelfFault, Sink, SinkFault, Status, Text, Unbuilt,
+    ADDRESS_PAGES, DATA_END, DATA_END_PAGE, FsShelf, MOST_BIRTHS, MOST_WRITES, MemShelf, MemSink,
+    PAGE_SIZE, PAGE_WORDS, Shelf, ShelfFault, Sink, SinkFault, Text,
 };
-
-fn unbuilt(what: Unbuilt) -> Status {
-    Status::Unbuilt { what }
-}
-
-#[test]
-fn statuses(rt: HostRuntime) -> Result<(), Fail> {
-    let limit = Status::Limit {
-        what: LimitKind::File,
-        number: 67_108_865,
-        most: 67_108_864,
-    };
-    let cases = [
-        (Status::Done, 0, ""),
-        (Status::Words, 1, "wfpatch: words"),
-        (Status::Shelf, 5, "wfpatch: shelf"),
-        (Status::Sink, 6, "wfpatch: sink"),
-        (Status::Memory, 7, "wfpatch: memory"),
-        (limit, 8, "wfpatch: limit file 67108865 of 67108864"),
-        (unbuilt(Unbuilt::Image), 10, "wfpatch: unbuilt image"),
-        (
-            unbuilt(Unbuilt::Script { line: 12 }),
-            10,
-            "wfpatch: unbuilt script line 12",
-        ),
-        (unbuilt(Unbuilt::Journal), 10, "wfpatch: unbuilt journal"),
-        (
-            unbuilt(Unbuilt::Step { pc: 0x1_00AC }),
-            10,
-            "wfpatch: unbuilt step 100ac",
-        ),
-    ];
-    for (status, code, line) in cases {
-        assert_eq!(rt; status.code(), code, "{line}");
-        let text = status.line(rt.alloc())?;
-        assert_eq!(rt; text.bytes(), line.as_bytes(), "{line}");
-    }
-    Ok(())
-}
 
 #[test]
 fn shelf_and_sink(rt: HostRuntime) -> Result<(), Fail> {

@@ -4,5 +4,4 @@ pub mod Images
 pub mod Files
 pub mod Puts
 pub mod MemFiles
-pub mod StatusText
 pub mod Taking

@@ -9,7 +9,6 @@ mod rules;
 mod shelf;
 mod sink;
 mod sizes;
-mod status;
 mod text;
 
 pub use image::{DataPage, Delta, Image, Jump, Limits, Name, Page};
@@ -22,5 +21,4 @@ pub use sizes::{
     ADDRESS_PAGES, DATA_END, DATA_END_PAGE, LEAST_FRAMES, MOST_BIRTHS, MOST_FRAMES,
     MOST_IMAGE_PAGES, MOST_WRITES, PAGE_SIZE, PAGE_WORDS,
 };
-pub use status::{LimitKind, Status, Unbuilt};
 pub use text::Text;

@@ -32,3 +32,5 @@ mod runs;
 mod small_images;
 #[cfg(test)]
 mod start_tests;
+#[cfg(test)]
+mod status_tests;

@@ -2,7 +2,8 @@
 use crate::runs::{answer, files_of, run, unbuilt, words_of};
 use crate::small_images::{TEXT, plain_image, report_with};
 use std::test::Fail;
-use wf_outside::{LimitKind, MemShelf, MemSink, Shelf, ShelfFault, Status, Unbuilt};
+use wf_outside::{MemShelf, MemSink, Shelf, ShelfFault};
+use wf_status::{LimitKind, Status, Unbuilt};
 use wf_top::top;
 
 // The report of the empty script.

@@ -2,7 +2,8 @@
 use crate::small_images::plain_image;
 use std::alloc::Global;
 use std::test::Fail;
-use wf_outside::{MemShelf, MemSink, Status, Text, Unbuilt};
+use wf_outside::{MemShelf, MemSink, Text};
+use wf_status::{Status, Unbuilt};
 use wf_top::top;
 
 /// A program, its script, and how what is printed of its run begins, from the first entry on.

@@ -1,4 +1,3 @@
-pub mod ImageLemmas
 pub mod LineLemmas
 pub mod ScriptLemmas
 pub mod RunLemmas

@@ -1,6 +1,6 @@
 -- A plain image and one hart take ten frames.
 use Rattle.std.proofs.Common.{◌≡◌, ℕ, List, [], ◌∷◌, length, refl, sym, subst, arith, lit≤, ◌≤◌, Option, Some, None, Bool, true, false, cond}
-use Rattle.wf_top.specs.Answers.{HoldsBytes}
+use Rattle.wf_fetch.specs.Held.{HoldsBytes}
 use Rattle.std.specs.List.{AllByRecursion}
 use Rattle.wf_top.specs.declared.script.Command.{Command}
 use Rattle.wf_top.specs.declared.script.Command.TheVariants.{Step}
@@ -11,15 +11,8 @@ use Rattle.wf_outside.specs.Pages.{LimitsValue}
 use Rattle.wf_outside.specs.Images.{ImageValue}
 use Rattle.wf_flat.specs.State.{FlatState}
 use Rattle.wf_flat.specs.Ordered.{IsOrdered}
-use Rattle.wf_flat.specs.Counts.{used_of}
-use Rattle.wf_flat.specs.Boot.{boot_of, stacks_of, numbered_from, boot_harts, places_with}
-use Rattle.wf_top.specs.PlainImage.{plain_text, is_plain_image, plain_image_of}
-use Rattle.wf_top.specs.Running.{sizes}
+use Rattle.wf_flat.specs.Boot.{boot_of, boot_harts}
 use Rattle.wf_top.proofs.StartLemmas.{boot_fresh}
-
-pub frames_of_plain : (bytes : List ℕ) → used_of (boot_of (record { text = plain_text bytes ∷ []; pages = []; entry = 0x10000; names = []; end = 0x11 }) 1 sizes) ≡ 10
-unfolding plain_text places_with stacks_of numbered_from
-frames_of_plain bytes = refl
 
 -- the machine is at rest at the start
 boot_rests : (image : ImageValue) (limits : LimitsValue) → IsOrdered (boot_of image 1 limits) → IsResting (boot_of image 1 limits)
@@ -37,14 +30,6 @@ one_hart image limits = refl
 pub plain_there : (script : List Command) → AllByRecursion IsPlain script → AllByRecursion (IsThere 1) script
 plain_there [] all = tt
 plain_there (Step hart n ∷ script) all = (let e : hart ≡ 0 = all.0.0 in omega arith, plain_there script all.1)
-
--- what a plain image takes fits
-pub plain_fits : (bytes : List ℕ) (image : ImageValue) → Some image ≡ plain_image_of bytes → used_of (boot_of image 1 sizes) ≤ 1024
-plain_fits bytes image e = by_test (is_plain_image bytes) e
-  where
-    by_test : (b : Bool) → Some image ≡ cond b (Some (record { text = plain_text bytes ∷ []; pages = []; entry = 0x10000; names = []; end = 0x11 })) None → used_of (boot_of image 1 sizes) ≤ 1024
-    by_test true f = (let same : image ≡ record { text = plain_text bytes ∷ []; pages = []; entry = 0x10000; names = []; end = 0x11 } = cc in rw (same, frames_of_plain bytes) (lit≤ tt))
-    by_test false f = absurd (cc)
 
 -- what is read of what is held
 pub reads_more : (held : Option (List ℕ)) (P Q : List ℕ → Type 0) → ((bytes : List ℕ) → P bytes → Q bytes) → HoldsBytes held P → HoldsBytes held Q

@@ -2,8 +2,8 @@
 use Rattle.std.proofs.Common.{◌≡◌, ◌⊎◌, ℕ, List, Option, Some, inl, inr}
 use Rattle.std.specs.Prelude.{IfSome}
 use Rattle.wf_outside.specs.Files.{File, first_bytes}
-use Rattle.wf_outside.specs.declared.status.Status.{Status}
-use Rattle.wf_outside.specs.declared.status.Status.TheVariants.{Done, Shelf, Sink, Memory}
+use Rattle.wf_status.specs.declared.status.Status.{Status}
+use Rattle.wf_status.specs.declared.status.Status.TheVariants.{Done, Shelf, Sink, Memory}
 use Rattle.wf_top.specs.Words.{run_words}
 use Rattle.wf_top.specs.Answers.{IfRun, IsFault, CallsFor, PutsRun}
 use Rattle.wf_top.specs.Laws.{AnswersAreOne, RunsMeetNothing}
@@ -17,7 +17,7 @@ by_words words holds P image script e h = rw e h
 -- a run that was put is called for
 put_is_called_for : RunsMeetNothing → (image script before now : Option (List ℕ)) → PutsRun image script before now → CallsFor image script Done
 put_is_called_for law image script before now d =
-    record { image = d.image; script = d.script; is_image = d.is_image; is_script = d.is_script; fits = λ pc meets. law d.image d.script d.fits.0 pc d.fits.1 meets }
+    record { image = d.image; script = d.script; is_image = d.is_image; is_script = d.is_script; fits = (d.fits.0, λ pc meets. law d.image d.script d.fits.1.0 pc d.fits.1.1 meets) }
 
 pub done_cause : RunsMeetNothing → (words : List (List ℕ)) (holds : Option (List File)) (image script : List ℕ) (before now : Option (List ℕ)) → run_words words ≡ Some (image, script)
     → IfSome holds (λ files. PutsRun (first_bytes image files) (first_bytes script files) before now) → IfSome holds (λ files. IsFault Done ⊎ CallsFor (first_bytes image files) (first_bytes script files) Done)

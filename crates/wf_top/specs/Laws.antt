@@ -1,7 +1,7 @@
 -- What holds of all files.
 use Rattle.std.specs.Prelude.{◌≡◌, ℕ, List, Option}
 use Rattle.wf_outside.specs.Images.{ImageValue}
-use Rattle.wf_outside.specs.declared.status.Status.{Status}
+use Rattle.wf_status.specs.declared.status.Status.{Status}
 use Rattle.wf_top.specs.declared.script.Command.{Command}
 use Rattle.wf_top.specs.Answers.{CallsFor}
 use Rattle.wf_top.specs.Follows.{MeetsUnbuilt}

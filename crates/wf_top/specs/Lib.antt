@@ -1,5 +1,4 @@
 pub mod Words
-pub mod PlainImage
 pub mod PlainScript
 pub mod PlainLines
 pub mod Follows

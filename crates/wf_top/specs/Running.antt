@@ -5,6 +5,7 @@ use Rattle.wf_outside.specs.Pages.{LimitsValue}
 use Rattle.wf_outside.specs.Images.{ImageValue}
 use Rattle.wf_flat.specs.declared.event.Entry.{Entry}
 use Rattle.wf_flat.specs.Boot.{boot_of}
+use Rattle.wf_flat.specs.Counts.{used_of}
 use Rattle.wf_flat.specs.Legal.{Moment, IsLegal, end_of, at_rest}
 use Rattle.wf_top.specs.declared.script.Command.{Command}
 use Rattle.wf_top.specs.Follows.{Follows}
@@ -13,6 +14,14 @@ use Rattle.wf_report.specs.Report.{report_bytes}
 -- the sizes of the machine: 1,024 frames, and the whole range of both counts
 abbrev pub sizes : LimitsValue
 sizes = record { frames = 1024; last_writes = MOST_WRITES; last_birth = MOST_BIRTHS }
+
+-- how many frames there are
+abbrev pub most_frames : ℕ
+most_frames = sizes.frames
+
+-- how many frames one hart at the start of the image uses
+abbrev pub frames_of : ImageValue → ℕ
+frames_of image = used_of (boot_of image 1 sizes)
 
 -- one hart at the start of the image, and no call open
 abbrev pub start_of : ImageValue → Moment

@@ -5,7 +5,6 @@ mod following;
 mod input;
 mod laws;
 mod output;
-mod plain_image;
 mod running;
 mod script;
 mod words;

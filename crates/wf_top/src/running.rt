@@ -1,27 +1,25 @@
 //! The top call.
 ghost use Rattle.std.specs.Prelude.{◌≡◌, ◌≢◌, ◌↔◌, ◌⊎◌, ◌≤◌, ℕ, List, IfOk, IfErr, IfSome, OnOk, Some, None, Err};
 ghost use Rattle.wf_outside.specs.Files.{HasRisen, first_bytes};
-ghost use Rattle.wf_outside.specs.declared.status.Status.{Status};
-ghost use Rattle.wf_flat.specs.Counts.{used_of};
-ghost use Rattle.wf_flat.specs.Boot.{boot_of};
+ghost use Rattle.wf_status.specs.declared.status.Status.{Status};
 ghost use Rattle.wf_top.specs.Words.{run_words};
 ghost use Rattle.wf_top.specs.PlainScript.{ArePlain};
-ghost use Rattle.wf_top.specs.Running.{IsRun, sizes};
+ghost use Rattle.wf_top.specs.Running.{IsRun, frames_of, most_frames};
 ghost use Rattle.wf_top.specs.Fetching.{IsRunStatus};
 ghost use Rattle.wf_top.specs.Answers.{HoldsImage, CallsFor, IfRun, IsFault, PutsRun, PutsFront};
 
 use crate::following::follow;
-use crate::input::{fetch_image, fetch_script};
+use crate::input::fetch_script;
 use crate::laws::runs_are_determined;
 use crate::output::put_all;
 use crate::script::Command;
 use crate::words::names_of_run;
 use std::alloc::Global;
+use wf_fetch::fetch_image;
 use wf_flat::{BootFault, boot};
-use wf_outside::{
-    Image, Limits, MOST_BIRTHS, MOST_WRITES, Memory, Shelf, Sink, Status, Text, Unbuilt,
-};
+use wf_outside::{Image, Limits, MOST_BIRTHS, MOST_WRITES, Memory, Shelf, Sink, Text};
 use wf_report::report;
+use wf_status::{LimitKind, Status, Unbuilt};
 use wf_step::StepFault;
 
 const SIZES: Limits = Limits {
@@ -33,13 +31,17 @@ const SIZES: Limits = Limits {
 // The report of one hart that runs the script on the image.
 fn report_of(alloc: Global, image: &Image, script: &[Command]) -> Result<Vec<u8>, Status>
     requires plain { ArePlain script.now }
-    requires fits { used_of (boot_of image.now 1 sizes) ≤ 1024 }
+    ensures fits { OnOk result (frames_of image.now ≤ most_frames) }
     ensures ok { IfOk result (λ text. IsRun image.now script.now text.items) }
     ensures cause { IfErr result (λ status. IsRunStatus image.now script.now status) }
 {
     let mut flat = match boot(alloc, image, 1, SIZES) {
         Ok(flat) => flat,
-        Err(BootFault::NoFrames { .. }) => unreachable!(),
+        Err(BootFault::NoFrames { need, have }) => return Err(Status::Limit {
+            what: LimitKind::Frames,
+            number: need,
+            most: have,
+        }),
         Err(BootFault::Memory) => return Err(Status::Memory),
     };
     let mut journal = Vec::new(alloc);
@@ -106,13 +108,13 @@ fn run<S: Shelf, K: Sink>(
 }
 
 /// Runs a command, whose words these are, on the files of the shelf, and puts its output into the sink.
-/// The one command is `run IMAGE SCRIPT`: one hart runs the script, a plain one, on the image, a plain
-/// one, and the report is put.
+/// The one command is `run IMAGE SCRIPT`: one hart runs the script, a plain one, on the image, an ELF
+/// executable, and the report is put.
 pub fn top<S: Shelf, K: Sink>(alloc: Global, words: &[Text], shelf: &mut S, sink: &mut K) -> Status
     // The words are those of no command.
     ensures words { result ≡ Status.Words ↔ (run_words words.now ≡ None) }
 
-    // A read of a needed name failed: of the image's, or of the script's where the image is plain. Where
+    // A read of a needed name failed: of the image's, or of the script's where there is an image. Where
     // the shelf tells nothing of what it holds, both are needed.
     ensures shelf { result ≡ Status.Shelf
         → IfSome (run_words words.now)

@@ -5,7 +5,8 @@ use std::alloc::Global;
 use std::io;
 use std::process::ExitCode;
 use std::rt::{Env, Files};
-use wf_outside::{FsShelf, Status, StdSink, Text};
+use wf_outside::{FsShelf, StdSink, Text};
+use wf_status::Status;
 use wf_top::top;
 
 // The words of the command line behind the program's name. A word that isn't UTF-8 is a faulty

@@ -1,6 +1,6 @@
 use Rattle.std.proofs.Common.{ap, ℕ, List, Err}
 use Rattle.wf_outside.specs.Files.{HasRisen}
-use Rattle.wf_outside.specs.declared.status.Status.TheVariants.{Done}
+use Rattle.wf_status.specs.declared.status.Status.TheVariants.{Done}
 use Rattle.wf_top.proofs.TopLemmas.{done_cause, cause_by, answer_by, complete_by}
 use Rattle.wf_top.proofs.running.top.Goals as goal
 

@@ -1,23 +1,24 @@
 //! How a run of the program ended.
 ghost use Rattle.std.specs.Prelude.{◌≡◌, IfOk};
-ghost use Rattle.wf_outside.specs.StatusText.{code_of, line_of};
+ghost use Rattle.wf_status.specs.StatusText.{code_of, line_of};
 
-use crate::{Memory, Text};
+use crate::ImageRule;
 use std::alloc::Global;
 use std::fmt;
+use wf_outside::{Memory, Text};
 
 /// What has a limit.
 #[derive(Clone, Copy, Debug, PartialEq, Eq)]
 pub enum LimitKind {
     /// The bytes of a file.
     File,
+    /// The frames that the start of a run uses.
+    Frames,
 }
 
 /// What is not built yet.
 #[derive(Clone, Copy, Debug, PartialEq, Eq)]
 pub enum Unbuilt {
-    /// An image that is not plain.
-    Image,
     /// A script that is not plain, from this line on.
     Script { line: u64 },
     /// A journal to be checked.
@@ -33,6 +34,11 @@ pub enum Status {
     Done,
     /// No command has these words.
     Words,
+    /// The image breaks this rule first, at this place, in bytes from the start of its file.
+    Image {
+        rule: ImageRule,
+        at: u64,
+    },
     /// A file could not be read.
     Shelf,
     /// The output could not be put.
@@ -52,7 +58,7 @@ pub enum Status {
 }
 
 impl Status {
-    /// The exit status: 0 for `Done`, 1 for `Words`, 5 for `Shelf`, 6 for `Sink`, 7 for `Memory`, 8
+    /// The exit status: 0 for `Done`, 1 for `Words`, 2 for `Image`, 5 for `Shelf`, 6 for `Sink`, 7 for `Memory`, 8
     /// for `Limit`, 10 for `Unbuilt`.
     pub fn code(&self) -> u8
         ensures { result ≡ code_of self.now }
@@ -60,6 +66,7 @@ impl Status {
         match self {
             Status::Done => 0,
             Status::Words => 1,
+            Status::Image { .. } => 2,
             Status::Shelf => 5,
             Status::Sink => 6,
             Status::Memory => 7,
@@ -80,26 +87,26 @@ impl Status {
 
 impl fmt::Display for LimitKind {
     ghost use Rattle.std.specs.Prelude.{Some};
-    ghost use Rattle.wf_outside.specs.StatusText.{limit_text};
+    ghost use Rattle.wf_status.specs.StatusText.{limit_text};
 
     ghost output = { λ what. Some (limit_text what) };
 
     fn fmt<W: fmt::Write>(&self, f: &mut fmt::Formatter<W>) -> fmt::Result {
         match self {
             LimitKind::File => write!(f, "file"),
+            LimitKind::Frames => write!(f, "frames"),
         }
     }
 }
 
 impl fmt::Display for Unbuilt {
     ghost use Rattle.std.specs.Prelude.{Some};
-    ghost use Rattle.wf_outside.specs.StatusText.{unbuilt_text};
+    ghost use Rattle.wf_status.specs.StatusText.{unbuilt_text};
 
     ghost output = { λ what. Some (unbuilt_text what) };
 
     fn fmt<W: fmt::Write>(&self, f: &mut fmt::Formatter<W>) -> fmt::Result {
         match *self {
-            Unbuilt::Image => write!(f, "image"),
             Unbuilt::Script { line } => write!(f, "script line {line}"),
             Unbuilt::Journal => write!(f, "journal"),
             Unbuilt::Step { pc } => write!(f, "step {pc:x}"),
@@ -109,7 +116,7 @@ impl fmt::Display for Unbuilt {
 
 impl fmt::Display for Status {
     ghost use Rattle.std.specs.Prelude.{Some};
-    ghost use Rattle.wf_outside.specs.StatusText.{line_of};
+    ghost use Rattle.wf_status.specs.StatusText.{line_of};
 
     ghost output = { λ status. Some (line_of status) };
 
@@ -117,6 +124,7 @@ impl fmt::Display for Status {
         match *self {
             Status::Done => Ok(()),
             Status::Words => write!(f, "wfpatch: words"),
+            Status::Image { rule, at } => write!(f, "wfpatch: image {rule} at {at}"),
             Status::Shelf => write!(f, "wfpatch: shelf"),
             Status::Sink => write!(f, "wfpatch: sink"),
             Status::Memory => write!(f, "wfpatch: memory"),

@@ -1,0 +1,4 @@
+pub mod Held
+pub mod Loaded
+pub mod Fetching
+pub mod Reading

@@ -1,0 +1,71 @@
+-- The exit status of a status, and its line.
+use Rattle.std.specs.Prelude.{◌++◌, ℕ, List, [], false, codes}
+use Rattle.std.specs.Fmt.{decimal, digits}
+use Rattle.wf_status.specs.declared.status.Status.{Status}
+use Rattle.wf_status.specs.declared.status.Status.TheVariants.{Done, Words, Image, Shelf, Sink, Memory, Limit, Unbuilt}
+use Rattle.wf_status.specs.declared.status.LimitKind.{LimitKind}
+use Rattle.wf_status.specs.declared.status.LimitKind.TheVariants.{File, Frames}
+use Rattle.wf_status.specs.declared.status.Unbuilt.{Unbuilt as UnbuiltPart}
+use Rattle.wf_status.specs.declared.status.Unbuilt.TheVariants.{Script, Journal, Step}
+use Rattle.wf_status.specs.declared.rules.ImageRule.{ImageRule}
+use Rattle.wf_status.specs.declared.rules.ImageRule.TheVariants.{Short, Magic, Class, Order, Kind, Machine, Flags, Table, Range, Strings, TlsSegment, Interp, Dynamic, WriteAndRun, HighAddress, TooLarge, SharedPage, NoEntry}
+
+-- the exit status of each end of a run
+abbrev pub code_of : Status → ℕ
+code_of Done = 0
+code_of Words = 1
+code_of (Image rule at) = 2
+code_of Shelf = 5
+code_of Sink = 6
+code_of Memory = 7
+code_of (Limit what number most) = 8
+code_of (Unbuilt what) = 10
+
+-- the word for what has a limit
+abbrev pub limit_text : LimitKind → List ℕ
+limit_text File = codes "file"
+limit_text Frames = codes "frames"
+
+-- the words for what is not built: addresses are hexadecimal, lines decimal
+abbrev pub unbuilt_text : UnbuiltPart → List ℕ
+unbuilt_text (Script line) = codes "script line " ++ decimal line
+unbuilt_text Journal = codes "journal"
+unbuilt_text (Step pc) = codes "step " ++ digits 16 false pc
+
+-- the word for a rule of images
+abbrev pub rule_text : ImageRule → List ℕ
+rule_text Short = codes "short"
+rule_text Magic = codes "magic"
+rule_text Class = codes "class"
+rule_text Order = codes "order"
+rule_text Kind = codes "kind"
+rule_text Machine = codes "machine"
+rule_text Flags = codes "flags"
+rule_text Table = codes "table"
+rule_text Range = codes "range"
+rule_text Strings = codes "strings"
+rule_text TlsSegment = codes "tlssegment"
+rule_text Interp = codes "interp"
+rule_text Dynamic = codes "dynamic"
+rule_text WriteAndRun = codes "writeandrun"
+rule_text HighAddress = codes "highaddress"
+rule_text TooLarge = codes "toolarge"
+rule_text SharedPage = codes "sharedpage"
+rule_text NoEntry = codes "noentry"
+
+-- the line, without its newline; none for a run that was done
+abbrev pub line_of : Status → List ℕ
+line_of Done = []
+line_of Words = codes "wfpatch: words"
+line_of (Image rule at) = codes "wfpatch: image " ++ rule_text rule ++ codes " at " ++ decimal at
+line_of Shelf = codes "wfpatch: shelf"
+line_of Sink = codes "wfpatch: sink"
+line_of Memory = codes "wfpatch: memory"
+line_of (Limit what number most) =
+    codes "wfpatch: limit "
+    ++ limit_text what
+    ++ codes " "
+    ++ decimal number
+    ++ codes " of "
+    ++ decimal most
+line_of (Unbuilt what) = codes "wfpatch: unbuilt " ++ unbuilt_text what
