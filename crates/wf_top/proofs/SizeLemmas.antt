@@ -1,5 +1,5 @@
 -- A plain image and one hart take ten frames.
-use Rattle.std.proofs.Common.{◌≡◌, ℕ, List, [], ◌∷◌, length, refl, sym, subst, arith, lit≤, ◌≤◌, Option, Some, None, Bool, true, false, cond}
+use Rattle.std.proofs.Common.{◌≡◌, ℕ, List, [], ◌∷◌, length, refl, sym, subst, arith, Option, Some, None}
 use Rattle.wf_fetch.specs.Held.{HoldsBytes}
 use Rattle.std.specs.List.{AllByRecursion}
 use Rattle.wf_top.specs.declared.script.Command.{Command}

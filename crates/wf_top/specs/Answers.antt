@@ -1,5 +1,5 @@
 -- What two files call for, and what a run answers.
-use Rattle.std.specs.Prelude.{◌≡◌, ◌<◌, ◌≤◌, ◌+◌, ◌⊎◌, ℕ, List, Option, Some, None, IfSome}
+use Rattle.std.specs.Prelude.{◌≡◌, ◌<◌, ◌≤◌, ◌+◌, ◌⊎◌, ℕ, List, Option, Some, IfSome}
 use Rattle.wf_outside.specs.Files.{File as HeldFile, first_bytes}
 use Rattle.wf_outside.specs.Images.{ImageValue}
 use Rattle.wf_outside.specs.Puts.{Appends, AppendsPrefix}
