@@ -364,3 +364,14 @@ read_if base is most bytes (Some n) fits e = let read = number_sound base is mos
 pub last_if : (most : ℕ) (bytes : List ℕ) (r : Option ℕ) → r ≡ number_from glyph_value 16 most 0 bytes → IfSome r (λ n. (n ≤ most) × (bytes ≡ last_hex (length bytes) n))
 last_if most bytes None e = tt
 last_if most bytes (Some n) e = let read = last_sound most bytes n (sym e) in (read.1, read.0)
+
+-- what is read is at most the most
+pub from_few : (value : ℕ → ℕ) (base most n : ℕ) (bytes : List ℕ) (x : ℕ) → n ≤ most → number_from value base most n bytes ≡ Some x → x ≤ most
+from_few value base most n [] x few e = let same : n ≡ x = some_same n x (sym (from_end value base most n) ∙ e) in omega arith
+from_few value base most n (c ∷ cs) x few e =
+    elim (chosen (nat_lt (value c) base && nat_le (n * base + value c) most) (number_from value base most (n * base + value c) cs) None (Some x) (sym (from_cell value base most n c cs) ∙ e)) [
+      | inl p ↦
+          let t = both_true (nat_lt (value c) base) (nat_le (n * base + value c) most) p.0 in
+          from_few value base most (n * base + value c) cs x (is_within (n * base + value c) most t.1) p.1
+      | inr p ↦ absurd (none-some x p.1)
+    ]
