@@ -1,3 +1,6 @@
 pub mod Entries
 pub mod Finals
 pub mod Headers
+pub mod Fields
+pub mod Events
+pub mod Journals

@@ -2,10 +2,16 @@
 #![tactic(auto)]
 
 mod entries;
+mod events;
 mod fields;
 mod finals;
 mod headers;
+mod journal;
+mod reading;
+mod words;
 
 pub use entries::{entry_text, push_entry};
 pub use finals::final_text;
 pub use headers::{push_header, push_lines};
+pub use journal::{Journal, JournalFault};
+pub use reading::read_journal;

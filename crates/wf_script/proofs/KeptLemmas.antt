@@ -1,13 +1,13 @@
 -- What a command that is read keeps.
 use Rattle.std.proofs.Common.{◌≡◌, ◌≤◌, [], ℕ, suc, List, Bool, true, false, cond, eqb, length, Option, Some, None, Result, Ok, Err, refl, ap, subst, arith}
-use Rattle.wf_text.specs.Lines.{before, from, unspaced}
+use Rattle.wf_text.specs.Lines.{before, from, unspaced, name_of}
 use Rattle.wf_flat.specs.declared.event.Actor.{Actor}
 use Rattle.wf_script.specs.declared.command.Command.{Command}
 use Rattle.wf_script.specs.declared.command.Command.TheVariants as command
 use Rattle.wf_script.specs.declared.words.Verb.{Verb}
 use Rattle.wf_script.specs.declared.words.Verb.TheVariants.{Step, Tick, Run, Patch, Begin, Create, Delete, Tables, Regs, Mem}
 use Rattle.wf_script.specs.Commands.{IsCommand}
-use Rattle.wf_script.specs.Words.{verb_of, begun_of, hart_of, actor_of, count_of, generation_of, address_of, name_of}
+use Rattle.wf_script.specs.Words.{verb_of, begun_of, hart_of, actor_of, count_of, generation_of, address_of}
 use Rattle.wf_script.specs.Reading.{◌>>=◌, or_left, next, named, step_in, tick_in, run_in, patch_in, begin_in, generation_in, regs_in, mem_in, arguments_in, ended, command_in}
 use Rattle.wf_script.proofs.WordLemmas.{few_read, hart_kept, actor_kept, count_kept, address_kept}
 

@@ -1,50 +1,15 @@
 -- How words are read, and what is kept by what is read.
-use Rattle.std.proofs.Common.{◌≡◌, ◌<◌, ◌≤◌, ◌+◌, ◌-◌, ◌%◌, ◌^◌, [], ◌∷◌, ℕ, zero, suc, List, Bool, true, false, eqb, length, drop, get_or, Option, Some, None, refl, sym, ap, ◌∙◌, arith, inl, inr, add-one, drop-cons}
-use Rattle.std.specs.Prelude.{◌&&◌, nat_le, nat_lt, codes, slice_index}
+use Rattle.std.proofs.Common.{◌≡◌, ◌<◌, ◌≤◌, ◌-◌, ◌%◌, ◌^◌, ℕ, zero, suc, List, true, eqb, length, drop, Option, Some, None, refl, sym, ap, ◌∙◌, arith, inl, inr}
+use Rattle.std.specs.Prelude.{◌&&◌, nat_lt, codes, slice_index}
 use Rattle.std.specs.Str.{bytes_eq}
-use Rattle.std.proofs.lemmas.List.{drop_all}
 use Rattle.std.proofs.lemmas.Option.{none-some}
 use Rattle.std.proofs.lemmas.Bool.Decides.{nat_tests}
 use Rattle.wf_text.specs.Numbers.{number_of, number_from, any_hex, digit_of}
 use Rattle.wf_text.proofs.NumberLemmas.{chosen, ten, number_sound, from_few}
 use Rattle.wf_flat.specs.declared.event.Actor.{Actor}
 use Rattle.wf_flat.specs.declared.event.Actor.TheVariants as actor
-use Rattle.wf_script.specs.Words.{are_graphic, hart_of, actor_of, hart_actor, below, count_of, positive, address_of, aligned}
+use Rattle.wf_script.specs.Words.{hart_of, actor_of, hart_actor, below, count_of, positive, address_of, aligned}
 use Rattle.wf_script.specs.Commands.{IsThere, IsCount}
-
-graphic_cell : (c : ℕ) (cs : List ℕ) → are_graphic (c ∷ cs) ≡ (nat_le 33 c && nat_le c 126 && are_graphic cs)
-unfolding are_graphic
-graphic_cell c cs = refl
-
-graphic_none : are_graphic [] ≡ true
-unfolding are_graphic
-graphic_none = refl
-
-at_place : (word : List ℕ) (i : ℕ) → i < length word → are_graphic (drop i word) ≡ (nat_le 33 (get_or word i 0) && nat_le (get_or word i 0) 126 && are_graphic (drop (i + 1) word))
-at_place word i h = ap are_graphic (rw add-one (drop-cons word i 0 h)) ∙ graphic_cell (get_or word i 0) (drop (i + 1) word)
-
-low_false : (c : ℕ) (b : Bool) → c < 33 → (nat_le 33 c && nat_le c 126 && b) ≡ false
-low_false c b h = grind (arith, nat_tests)
-
-high_false : (c : ℕ) (b : Bool) → 126 < c → (nat_le 33 c && nat_le c 126 && b) ≡ false
-high_false c b h = grind (arith, nat_tests)
-
-both_same : (c : ℕ) (b : Bool) → 33 ≤ c → c ≤ 126 → (nat_le 33 c && nat_le c 126 && b) ≡ b
-both_same c b g h = grind (arith, nat_tests)
-
-pub graphic_low : (word : List ℕ) (i : ℕ) → i < length word → get_or word i 0 < 33 → are_graphic (drop i word) ≡ false
-graphic_low word i h e = at_place word i h ∙ low_false (get_or word i 0) (are_graphic (drop (i + 1) word)) e
-
-pub graphic_high : (word : List ℕ) (i : ℕ) → i < length word → 126 < get_or word i 0 → are_graphic (drop i word) ≡ false
-graphic_high word i h e = at_place word i h ∙ high_false (get_or word i 0) (are_graphic (drop (i + 1) word)) e
-
-pub graphic_goes : (word : List ℕ) (i : ℕ) → i < length word → 33 ≤ get_or word i 0 → get_or word i 0 ≤ 126 → are_graphic (drop i word) ≡ are_graphic (drop (i + 1) word)
-graphic_goes word i h a b = at_place word i h ∙ both_same (get_or word i 0) (are_graphic (drop (i + 1) word)) a b
-
-pub graphic_ends : (word : List ℕ) (i : ℕ) → length word ≤ i → are_graphic (drop i word) ≡ true
-graphic_ends word i h = ap are_graphic (drop_all i word h) ∙ graphic_none
-
-pub ruleset graphic_steps = (graphic_low, graphic_high, graphic_goes, graphic_ends)
 
 some_same : {A : Type 0} (x y : A) → Some x ≡ Some y → x ≡ y
 some_same x y e = cc

@@ -1,7 +1,7 @@
 -- The lines of a script: words that are parted by spaces, which may also stand before the first and behind
 -- the last. Lines without a word, and lines whose first word begins with `#`, are passed over.
 use Rattle.std.specs.Prelude.{◌≡◌, ℕ, suc, List, [], ◌∷◌, ◌++◌, ◌+◌, ◌-◌, ◌^◌, ◌==◌, ◌||◌, Bool, true, false, nat_lt, min, Option, Some, None, Result, Ok, Err, length, slice_index, sum_by, if◌then◌else◌}
-use Rattle.wf_text.specs.Lines.{lines_of, before, from, unspaced}
+use Rattle.wf_text.specs.Lines.{lines_of, before, from, unspaced, name_of}
 use Rattle.wf_script.specs.declared.command.Command.{Command}
 use Rattle.wf_script.specs.declared.command.Command.TheVariants as command
 use Rattle.wf_script.specs.declared.command.ScriptFault.{ScriptFault}
@@ -9,7 +9,7 @@ use Rattle.wf_script.specs.declared.command.ScriptFault.TheVariants.{At, Units, 
 use Rattle.wf_script.specs.declared.words.Verb.{Verb}
 use Rattle.wf_script.specs.declared.words.Verb.TheVariants.{Step, Tick, Run, Patch, Begin, Create, Delete, Tables, Regs, Mem}
 use Rattle.wf_script.specs.Commands.{ScriptValue, units_of}
-use Rattle.wf_script.specs.Words.{verb_of, begun_of, hart_of, actor_of, count_of, generation_of, address_of, name_of}
+use Rattle.wf_script.specs.Words.{verb_of, begun_of, hart_of, actor_of, count_of, generation_of, address_of}
 
 infixl 10 ◌>>=◌
 abbrev pub ◌>>=◌ : {A B E : Type 0} → Result A E → (A → Result B E) → Result B E

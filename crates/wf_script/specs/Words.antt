@@ -1,5 +1,5 @@
 -- What a word of a script's line may be.
-use Rattle.std.specs.Prelude.{ℕ, zero, suc, List, [], ◌∷◌, ◌-◌, ◌%◌, ◌^◌, ◌==◌, ◌&&◌, Bool, true, nat_lt, nat_le, Option, Some, None, codes, length, drop, slice_index, if◌then◌else◌}
+use Rattle.std.specs.Prelude.{ℕ, zero, suc, List, ◌-◌, ◌%◌, ◌^◌, ◌==◌, ◌&&◌, nat_lt, Option, Some, None, codes, drop, slice_index, if◌then◌else◌}
 use Rattle.std.specs.Str.{bytes_eq}
 use Rattle.wf_text.specs.Numbers.{number_of, any_hex}
 use Rattle.wf_flat.specs.declared.event.Actor.{Actor}
@@ -62,12 +62,3 @@ aligned (Some va) = if va % 8 == 0 then Some va else None
 -- an address of a doubleword below 2 ^ 38: `0x` and hexadecimal digits
 unfoldable pub address_of : List ℕ → Option ℕ
 address_of word = if slice_index word 0 == 48 && slice_index word 1 == 120 then aligned (any_hex (2 ^ 38 - 1) (drop 2 word)) else None
-
--- each byte is printed, and is no space
-unfoldable pub are_graphic : List ℕ → Bool
-are_graphic [] = true
-are_graphic (c ∷ cs) = nat_le 33 c && nat_le c 126 && are_graphic cs
-
--- the name of a file
-unfoldable pub name_of : List ℕ → Option (List ℕ)
-name_of word = if nat_lt 0 (length word) && are_graphic word then Some word else None

@@ -1,15 +1,16 @@
 //! The command of a line. A fault is the number of bytes of the line from the first wrong word on.
 ghost use Rattle.std.specs.Prelude.{◌≡◌, ◌≤◌};
 ghost use Rattle.wf_script.specs.declared.command.Command.TheVariants.{Create, Delete, Tables};
-ghost use Rattle.wf_script.specs.Words.{verb_of, begun_of, hart_of, actor_of, count_of, generation_of, address_of, name_of};
+ghost use Rattle.wf_script.specs.Words.{verb_of, begun_of, hart_of, actor_of, count_of, generation_of, address_of};
+ghost use Rattle.wf_text.specs.Lines.{name_of};
 ghost use Rattle.wf_script.specs.Reading.{Found, next, step_in, tick_in, run_in, patch_in, begin_in, generation_in, regs_in, mem_in, arguments_in, command_in};
 
 use crate::Command;
 use crate::words::{
-    Verb, actor_of, address_of, begun_of, count_of, generation_of, hart_of, name_of, verb_of,
+    Verb, actor_of, address_of, begun_of, count_of, generation_of, hart_of, verb_of,
 };
 use wf_flat::Actor;
-use wf_text::{split_word, without_spaces};
+use wf_text::{name_of, split_word, without_spaces};
 
 // A command, the name of its patch (no byte where it has none), and what stands behind it.
 type Named<'a> = (Command, &'a [u8], &'a [u8]);

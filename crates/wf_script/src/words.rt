@@ -1,6 +1,6 @@
 //! What a word of a script's line may be.
-ghost use Rattle.std.specs.Prelude.{◌≡◌, option_map};
-ghost use Rattle.wf_script.specs.Words.{verb_of, begun_of, hart_of, actor_of, count_of, generation_of, address_of, are_graphic, name_of};
+ghost use Rattle.std.specs.Prelude.{◌≡◌};
+ghost use Rattle.wf_script.specs.Words.{verb_of, begun_of, hart_of, actor_of, count_of, generation_of, address_of};
 
 use wf_flat::Actor;
 use wf_text::{any_hex_of, decimal_of};
@@ -129,28 +129,4 @@ pub fn address_of(word: &[u8]) -> Option<u64>
         return Some(va);
     }
     None
-}
-
-// Each byte is printed, and is no space.
-#[tactic(auto, using(crate::proofs::WordLemmas::graphic_steps))]
-fn are_graphic(word: &[u8]) -> bool
-    ensures { result ≡ are_graphic word.now }
-{
-    for byte in word {
-        if *byte < 0x21 || *byte > 0x7E {
-            return false;
-        }
-    }
-    true
-}
-
-/// The name of a file.
-#[tactic(auto, unfolding(crate::specs::Words::name_of))]
-pub fn name_of(word: &[u8]) -> Option<&[u8]>
-    ensures { option_map (λ name. name.now) result ≡ name_of word.now }
-{
-    if word.is_empty() || !are_graphic(word) {
-        return None;
-    }
-    Some(word)
 }

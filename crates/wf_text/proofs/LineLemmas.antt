@@ -3,7 +3,8 @@ use Rattle.std.proofs.Common.{◌≡◌, ◌≢◌, ◌<◌, ◌≤◌, ◌+◌,
 use Rattle.std.proofs.lemmas.List.{take_all, drop_all, drop-drop, take_more}
 use Rattle.std.proofs.lemmas.Bool.{cases_eq}
 use Rattle.std.proofs.lemmas.Bool.Decides.{nat_tests}
-use Rattle.wf_text.specs.Lines.{with_first, lines_of, before, from, unspaced}
+use Rattle.wf_text.specs.Lines.{with_first, lines_of, before, from, unspaced, are_graphic}
+use Rattle.std.specs.Prelude.{◌&&◌, nat_le, Bool, true, false}
 
 before_cell : (mark c : ℕ) (cs : List ℕ) → before mark (c ∷ cs) ≡ cond (eqb c mark) [] (c ∷ before mark cs)
 unfolding before
@@ -147,3 +148,37 @@ pub spaces_all : (bytes : List ℕ) (i : ℕ) → length bytes ≤ i → unspace
 spaces_all bytes i h = ap unspaced (drop_all i bytes h) ∙ unspaced_nothing
 
 pub ruleset space_steps = (spaces_more, spaces_end, spaces_all)
+
+graphic_cell : (c : ℕ) (cs : List ℕ) → are_graphic (c ∷ cs) ≡ (nat_le 33 c && nat_le c 126 && are_graphic cs)
+unfolding are_graphic
+graphic_cell c cs = refl
+
+graphic_none : are_graphic [] ≡ true
+unfolding are_graphic
+graphic_none = refl
+
+graphic_at : (word : List ℕ) (i : ℕ) → i < length word → are_graphic (drop i word) ≡ (nat_le 33 (get_or word i 0) && nat_le (get_or word i 0) 126 && are_graphic (drop (i + 1) word))
+graphic_at word i h = ap are_graphic (rw add-one (drop-cons word i 0 h)) ∙ graphic_cell (get_or word i 0) (drop (i + 1) word)
+
+low_false : (c : ℕ) (b : Bool) → c < 33 → (nat_le 33 c && nat_le c 126 && b) ≡ false
+low_false c b h = grind (arith, nat_tests)
+
+high_false : (c : ℕ) (b : Bool) → 126 < c → (nat_le 33 c && nat_le c 126 && b) ≡ false
+high_false c b h = grind (arith, nat_tests)
+
+both_same : (c : ℕ) (b : Bool) → 33 ≤ c → c ≤ 126 → (nat_le 33 c && nat_le c 126 && b) ≡ b
+both_same c b g h = grind (arith, nat_tests)
+
+pub graphic_low : (word : List ℕ) (i : ℕ) → i < length word → get_or word i 0 < 33 → are_graphic (drop i word) ≡ false
+graphic_low word i h e = graphic_at word i h ∙ low_false (get_or word i 0) (are_graphic (drop (i + 1) word)) e
+
+pub graphic_high : (word : List ℕ) (i : ℕ) → i < length word → 126 < get_or word i 0 → are_graphic (drop i word) ≡ false
+graphic_high word i h e = graphic_at word i h ∙ high_false (get_or word i 0) (are_graphic (drop (i + 1) word)) e
+
+pub graphic_goes : (word : List ℕ) (i : ℕ) → i < length word → 33 ≤ get_or word i 0 → get_or word i 0 ≤ 126 → are_graphic (drop i word) ≡ are_graphic (drop (i + 1) word)
+graphic_goes word i h a b = graphic_at word i h ∙ both_same (get_or word i 0) (are_graphic (drop (i + 1) word)) a b
+
+pub graphic_ends : (word : List ℕ) (i : ℕ) → length word ≤ i → are_graphic (drop i word) ≡ true
+graphic_ends word i h = ap are_graphic (drop_all i word h) ∙ graphic_none
+
+pub ruleset graphic_steps = (graphic_low, graphic_high, graphic_goes, graphic_ends)

@@ -1,5 +1,5 @@
--- Lines, and the words of a line.
-use Rattle.std.specs.Prelude.{ℕ, List, [], ◌∷◌, ◌==◌, if◌then◌else◌}
+-- Lines, the words of a line, and names.
+use Rattle.std.specs.Prelude.{ℕ, List, [], ◌∷◌, ◌==◌, ◌&&◌, Bool, true, nat_lt, nat_le, Option, Some, None, length, if◌then◌else◌}
 
 -- a line that begins with this byte, where these lines follow
 abbrev pub with_first : ℕ → List (List ℕ) → List (List ℕ)
@@ -25,3 +25,12 @@ from mark (c ∷ cs) = if c == mark then c ∷ cs else from mark cs
 unfoldable pub unspaced : List ℕ → List ℕ
 unspaced [] = []
 unspaced (c ∷ cs) = if c == 32 then unspaced cs else c ∷ cs
+
+-- each byte is printed, and is no space
+unfoldable pub are_graphic : List ℕ → Bool
+are_graphic [] = true
+are_graphic (c ∷ cs) = nat_le 33 c && nat_le c 126 && are_graphic cs
+
+-- the name of a file
+unfoldable pub name_of : List ℕ → Option (List ℕ)
+name_of word = if nat_lt 0 (length word) && are_graphic word then Some word else None
