@@ -4,3 +4,4 @@ pub mod Headers
 pub mod Fields
 pub mod Events
 pub mod Journals
+pub mod Laws

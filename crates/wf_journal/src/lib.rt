@@ -7,6 +7,7 @@ mod fields;
 mod finals;
 mod headers;
 mod journal;
+mod laws;
 mod reading;
 mod words;
 
@@ -14,4 +15,5 @@ pub use entries::{entry_text, push_entry};
 pub use finals::final_text;
 pub use headers::{push_header, push_lines};
 pub use journal::{Journal, JournalFault};
+pub use laws::entries_are_read_back;
 pub use reading::read_journal;
