@@ -1,0 +1,4 @@
+pub mod LineLemmas
+pub mod JournalLemmas
+pub mod FieldLemmas
+pub mod EventLemmas
