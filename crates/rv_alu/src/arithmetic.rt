@@ -44,9 +44,9 @@ pub fn alu(op: AluOp, a: u64, b: u64) -> u64
     }
 }
 
-/// What an atomic memory operation writes, made of the old number in memory and that of a register. A
-/// wide operation is of 64 bits; one that is not is of the low 32 bits of both numbers, and what it writes
-/// is below 2^32.
+/// What an atomic memory operation writes, made of the old number in memory and that of a register.
+/// A wide operation is of 64 bits; one that is not is of the low 32 bits of both numbers, and what
+/// it writes is below 2^32.
 ///
 /// RISC-V unprivileged ISA, "Atomic Memory Operations".
 pub fn amo(op: AmoOp, wide: bool, old: u64, b: u64) -> u64

@@ -42,9 +42,15 @@ first_inst v = Auipc 6 (high_part v)
 abbrev pub second_inst : ℤ → Inst
 second_inst v = Jalr 0 6 (low_part v)
 
+-- the two words of a jump so far
+abbrev pub jump_words : ℤ → ℕ × ℕ
+jump_words v = (word_of (first_inst v), word_of (second_inst v))
+
 -- the eight bytes of the jump, the lowest of each word first
 abbrev pub jump_bytes : ℕ → ℕ → List ℕ
-jump_bytes from to = to_le_bytes w32 (word_of (first_inst (distance from to))) ++ to_le_bytes w32 (word_of (second_inst (distance from to)))
+jump_bytes from to =
+    let words = jump_words (distance from to) in
+    to_le_bytes w32 words.0 ++ to_le_bytes w32 words.1
 
 -- The four bytes are an instruction that wants this of its hart and takes it from one state to
 -- another.

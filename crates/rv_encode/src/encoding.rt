@@ -4,7 +4,7 @@ ghost use Rattle.std.specs.Option.{SomeIff};
 ghost use Rattle.rv_inst.specs.Rows.{IsRow};
 ghost use Rattle.rv_inst.specs.Fields.{opcode, funct3};
 ghost use Rattle.rv_inst.specs.Decoding.{inst_of};
-ghost use Rattle.rv_inst.specs.Spelling.{IsSpelled, word_of};
+ghost use Rattle.rv_encode.specs.Words.{IsWordOf};
 ghost use Rattle.rv_inst.specs.declared.inst.Inst.TheVariants as inst;
 
 use crate::codes::{
@@ -16,16 +16,16 @@ use crate::formats::{
 use rv_alu::{AluOp, AmoOp, Cond};
 use rv_inst::{Inst, words_are_rows};
 
-/// The 32-bit word that is the instruction, or `None` where there is none: where the instruction has no
-/// row in the table, or a field is out of its row's range.
+/// The 32-bit word that is the instruction, or `None` where there is none: where the instruction
+/// has no row in the table, or a field is out of its row's range.
 ///
 /// RISC-V unprivileged ISA, "RV32/64G Instruction Set Listings".
 pub fn encode(inst: Inst) -> Option<u32>
-    ensures word { SomeIff result (IsSpelled inst) (word_of inst) }
+    ensures word { IsWordOf result inst }
     // The word is this instruction by its row, and each word that is.
     ensures row { (word : ℕ) → word < 2 ^ 32 → (result ≡ Some word) ↔ IsRow word inst }
     // Inverse to what decodes a word, both ways.
-    ensures inverse { (word : ℕ) → word < 2 ^ 32 → (result ≡ Some word) ↔ (inst_of word ≡ Some inst) }
+    ensures back { (word : ℕ) → word < 2 ^ 32 → (result ≡ Some word) ↔ (inst_of word ≡ Some inst) }
 {
     words_are_rows();
     by_format(inst)
@@ -33,7 +33,7 @@ pub fn encode(inst: Inst) -> Option<u32>
 
 // By the format of the instruction's words.
 fn by_format(inst: Inst) -> Option<u32>
-    ensures { SomeIff result (IsSpelled inst) (word_of inst) }
+    ensures { IsWordOf result inst }
 {
     match inst {
         Inst::Lui { rd, imm } => format_u(0x37, rd, imm),
@@ -120,19 +120,19 @@ fn by_format(inst: Inst) -> Option<u32>
 }
 
 fn load(width: u8, signed: bool, rd: u8, rs1: u8, off: i64) -> Option<u32>
-    ensures { let load = inst.Load width signed rd rs1 off in SomeIff result (IsSpelled load) (word_of load) }
+    ensures { IsWordOf result (inst.Load width signed rd rs1 off) }
 {
     format_i(0x03, load_code(width, signed)?, rd, rs1, off)
 }
 
 fn store(width: u8, rs1: u8, rs2: u8, off: i64) -> Option<u32>
-    ensures { let store = inst.Store width rs1 rs2 off in SomeIff result (IsSpelled store) (word_of store) }
+    ensures { IsWordOf result (inst.Store width rs1 rs2 off) }
 {
     format_s(0x23, store_code(width)?, rs1, rs2, off)
 }
 
 fn alu_imm(op: AluOp, rd: u8, rs1: u8, imm: i64) -> Option<u32>
-    ensures { let alu = inst.AluImm op rd rs1 imm in SomeIff result (IsSpelled alu) (word_of alu) }
+    ensures { IsWordOf result (inst.AluImm op rd rs1 imm) }
 {
     match op {
         AluOp::Add => format_i(0x13, 0, rd, rs1, imm),
@@ -153,7 +153,7 @@ fn alu_imm(op: AluOp, rd: u8, rs1: u8, imm: i64) -> Option<u32>
 }
 
 fn alu(op: AluOp, rd: u8, rs1: u8, rs2: u8) -> Option<u32>
-    ensures { let alu = inst.Alu op rd rs1 rs2 in SomeIff result (IsSpelled alu) (word_of alu) }
+    ensures { IsWordOf result (inst.Alu op rd rs1 rs2) }
 {
     let (opcode, funct3, funct7) = alu_codes(op);
     format_r(opcode, funct3, funct7, rd, rs1, rs2)

@@ -9,8 +9,9 @@ use std::alloc::Global;
 use std::fmt;
 use wf_outside::{Memory, Text};
 
-/// The text of an instruction that some word is, as `addi x10, x0, 7`: its mnemonic, a space, and its
-/// operands joined by `, `. Numbers are decimal; `lui` and `auipc` show bits 31 to 12 as an unsigned number.
+/// The text of an instruction that some word is, as `addi x10, x0, 7`: its mnemonic, a space, and
+/// its operands joined by `, `. Numbers are decimal; `lui` and `auipc` show bits 31 to 12 as an
+/// unsigned number.
 ///
 /// RISC-V unprivileged ISA, "RISC-V Assembly Programmer's Handbook".
 pub fn dis(alloc: Global, inst: Inst) -> Result<Text, Memory>

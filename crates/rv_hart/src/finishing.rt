@@ -9,8 +9,8 @@ use crate::planning::{at_offset, atomic_width, jalr_target};
 use rv_alu::{alu, taken};
 use rv_inst::{Arch, Inst, Want, accesses_have_widths};
 
-/// Leaves in `arch` the pc and registers after the instruction, which is no call of the kernel and no
-/// trap.
+/// Leaves in `arch` the pc and registers after the instruction, which is no call of the kernel and
+/// no trap.
 ///
 /// `got` is what the instruction read from memory, not extended: its low bytes are taken. For a
 /// store-conditional it is 0 where it stored, and 1 where it missed. It is not looked at for other
@@ -70,8 +70,8 @@ pub fn finish(arch: &mut Arch, inst: Inst, got: u64)
     }
 }
 
-/// Leaves in `arch` the pc and registers after a call of the kernel with this answer: a0, which is x10,
-/// is the answer, and the pc goes on by 4, modulo 2^64.
+/// Leaves in `arch` the pc and registers after a call of the kernel with this answer: a0, which is
+/// x10, is the answer, and the pc goes on by 4, modulo 2^64.
 ///
 /// RISC-V unprivileged ISA, "Environment Call and Breakpoints"; RISC-V ELF psABI, "Integer Register
 /// Convention".

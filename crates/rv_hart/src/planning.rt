@@ -13,8 +13,8 @@ use rv_inst::{Arch, Inst, Want, accesses_have_widths};
 
 /// What the instruction wants of memory or of the kernel, asked before it does anything.
 ///
-/// A jump to a target that is no multiple of 4, and an access at an address that is no multiple of its
-/// width, want a trap.
+/// A jump to a target that is no multiple of 4, and an access at an address that is no multiple of
+/// its width, want a trap.
 ///
 /// RISC-V unprivileged ISA, "RV64I Base Integer Instruction Set" and "A" Extension for Atomic
 /// Instructions; privileged ISA, "Machine Cause Register".
@@ -45,7 +45,7 @@ pub fn plan(arch: &Arch, inst: Inst) -> Want
             ..
         } => {
             let va = at_offset(arch.x[rs1 as usize], off);
-            unless_misaligned(va, width, LOAD_ADDRESS_MISALIGNED, Want::Look { va, width })
+            aligned_load(va, width, Want::Look { va, width })
         }
         Inst::Store {
             width,
@@ -55,12 +55,7 @@ pub fn plan(arch: &Arch, inst: Inst) -> Want
         } => {
             let va = at_offset(arch.x[rs1 as usize], off);
             let value = arch.x[rs2 as usize];
-            unless_misaligned(
-                va,
-                width,
-                STORE_ADDRESS_MISALIGNED,
-                Want::Put { va, width, value },
-            )
+            aligned_store(va, width, Want::Put { va, width, value })
         }
         Inst::Amo {
             op,
@@ -72,10 +67,9 @@ pub fn plan(arch: &Arch, inst: Inst) -> Want
             let va = arch.x[rs1 as usize];
             let width = atomic_width(wide);
             let value = arch.x[rs2 as usize];
-            unless_misaligned(
+            aligned_store(
                 va,
                 width,
-                STORE_ADDRESS_MISALIGNED,
                 Want::Swap {
                     va,
                     width,
@@ -87,23 +81,13 @@ pub fn plan(arch: &Arch, inst: Inst) -> Want
         Inst::Lr { wide, rs1, .. } => {
             let va = arch.x[rs1 as usize];
             let width = atomic_width(wide);
-            unless_misaligned(
-                va,
-                width,
-                LOAD_ADDRESS_MISALIGNED,
-                Want::Reserve { va, width },
-            )
+            aligned_load(va, width, Want::Reserve { va, width })
         }
         Inst::Sc { wide, rs1, rs2, .. } => {
             let va = arch.x[rs1 as usize];
             let width = atomic_width(wide);
             let value = arch.x[rs2 as usize];
-            unless_misaligned(
-                va,
-                width,
-                STORE_ADDRESS_MISALIGNED,
-                Want::PutIf { va, width, value },
-            )
+            aligned_store(va, width, Want::PutIf { va, width, value })
         }
         Inst::Lui { .. } | Inst::Auipc { .. } => Want::Nothing,
         Inst::AluImm { .. } | Inst::Alu { .. } => Want::Nothing,
@@ -152,8 +136,24 @@ fn jump(target: u64) -> Want
     }
 }
 
+// What a load or a load-reserved wants, or its trap.
+fn aligned_load(va: u64, width: u8, want: Want) -> Want
+    requires { IsWidth width }
+    ensures { result ≡ aligned va width LOAD_ADDRESS_MISALIGNED want }
+{
+    aligned(va, width, LOAD_ADDRESS_MISALIGNED, want)
+}
+
+// What a store, a store-conditional or an atomic memory operation wants, or its trap.
+fn aligned_store(va: u64, width: u8, want: Want) -> Want
+    requires { IsWidth width }
+    ensures { result ≡ aligned va width STORE_ADDRESS_MISALIGNED want }
+{
+    aligned(va, width, STORE_ADDRESS_MISALIGNED, want)
+}
+
 // What an access wants, or its trap.
-fn unless_misaligned(va: u64, width: u8, cause: u8, want: Want) -> Want
+fn aligned(va: u64, width: u8, cause: u8, want: Want) -> Want
     requires { IsWidth width }
     ensures { result ≡ aligned va width cause want }
 {

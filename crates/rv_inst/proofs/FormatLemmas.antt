@@ -6,137 +6,43 @@ use Rattle.rv_alu.specs.Arithmetic.{signed}
 use Rattle.rv_inst.specs.Fields.{bits, opcode, rd_in, funct3, rs1_in, rs2_in, funct7, funct6, amount_64, amount_32}
 use Rattle.rv_inst.specs.Spelling.{IsNumber, low_bits, word_r, word_i, word_s, word_b, word_u, word_j}
 
-pub r_opcode : (op f3 f7 rd rs1 rs2 : ℕ) → op < 2 ^ 7 → f3 < 2 ^ 3 → f7 < 2 ^ 7 → rd < 2 ^ 5 → rs1 < 2 ^ 5 → rs2 < 2 ^ 5 → opcode (word_r op f3 f7 rd rs1 rs2) ≡ op
-r_opcode op f3 f7 rd rs1 rs2 h0 h1 h2 h3 h4 h5 = omega arith
+-- the fields of the words of each format, in order: the word fits, its codes, its registers, its number
+pub r_fields : (op f3 f7 rd rs1 rs2 : ℕ) → op < 2 ^ 7 → f3 < 2 ^ 3 → f7 < 2 ^ 7 → rd < 2 ^ 5 → rs1 < 2 ^ 5 → rs2 < 2 ^ 5
+    → let word : ℕ = word_r op f3 f7 rd rs1 rs2 in
+    (word < 2 ^ 32) × (opcode word ≡ op) × (funct3 word ≡ f3) × (funct7 word ≡ f7) × (rd ≡ rd_in word) × (rs1 ≡ rs1_in word) × (rs2 ≡ rs2_in word)
+r_fields op f3 f7 rd rs1 rs2 h0 h1 h2 h3 h4 h5 = (omega arith, omega arith, omega arith, omega arith, omega arith, omega arith, omega arith)
 
-pub r_funct3 : (op f3 f7 rd rs1 rs2 : ℕ) → op < 2 ^ 7 → f3 < 2 ^ 3 → f7 < 2 ^ 7 → rd < 2 ^ 5 → rs1 < 2 ^ 5 → rs2 < 2 ^ 5 → funct3 (word_r op f3 f7 rd rs1 rs2) ≡ f3
-r_funct3 op f3 f7 rd rs1 rs2 h0 h1 h2 h3 h4 h5 = omega arith
+pub i_fields : (op f3 rd rs1 n : ℕ) → op < 2 ^ 7 → f3 < 2 ^ 3 → rd < 2 ^ 5 → rs1 < 2 ^ 5 → n < 2 ^ 12
+    → let word : ℕ = word_i op f3 rd rs1 n in
+    (word < 2 ^ 32) × (opcode word ≡ op) × (funct3 word ≡ f3) × (rd ≡ rd_in word) × (rs1 ≡ rs1_in word) × (bits 31 20 word ≡ n)
+i_fields op f3 rd rs1 n h0 h1 h2 h3 h4 = (omega arith, omega arith, omega arith, omega arith, omega arith, omega arith)
 
-pub r_funct7 : (op f3 f7 rd rs1 rs2 : ℕ) → op < 2 ^ 7 → f3 < 2 ^ 3 → f7 < 2 ^ 7 → rd < 2 ^ 5 → rs1 < 2 ^ 5 → rs2 < 2 ^ 5 → funct7 (word_r op f3 f7 rd rs1 rs2) ≡ f7
-r_funct7 op f3 f7 rd rs1 rs2 h0 h1 h2 h3 h4 h5 = omega arith
+-- an amount of a shift, and the code above it
+pub shift_fields_64 : (word n : ℕ) → bits 31 20 word ≡ n → (funct6 word ≡ n / 2 ^ 6) × (amount_64 word ≡ n % 2 ^ 6)
+shift_fields_64 word n h = (omega arith, omega arith)
 
-pub r_rd : (op f3 f7 rd rs1 rs2 : ℕ) → op < 2 ^ 7 → f3 < 2 ^ 3 → f7 < 2 ^ 7 → rd < 2 ^ 5 → rs1 < 2 ^ 5 → rs2 < 2 ^ 5 → rd_in (word_r op f3 f7 rd rs1 rs2) ≡ rd
-r_rd op f3 f7 rd rs1 rs2 h0 h1 h2 h3 h4 h5 = omega arith
+pub shift_fields_32 : (word n : ℕ) → bits 31 20 word ≡ n → (funct7 word ≡ n / 2 ^ 5) × (amount_32 word ≡ n % 2 ^ 5)
+shift_fields_32 word n h = (omega arith, omega arith)
 
-pub r_rs1 : (op f3 f7 rd rs1 rs2 : ℕ) → op < 2 ^ 7 → f3 < 2 ^ 3 → f7 < 2 ^ 7 → rd < 2 ^ 5 → rs1 < 2 ^ 5 → rs2 < 2 ^ 5 → rs1_in (word_r op f3 f7 rd rs1 rs2) ≡ rs1
-r_rs1 op f3 f7 rd rs1 rs2 h0 h1 h2 h3 h4 h5 = omega arith
+pub s_fields : (op f3 rs1 rs2 n : ℕ) → op < 2 ^ 7 → f3 < 2 ^ 3 → rs1 < 2 ^ 5 → rs2 < 2 ^ 5 → n < 2 ^ 12
+    → let word : ℕ = word_s op f3 rs1 rs2 n in
+    (word < 2 ^ 32) × (opcode word ≡ op) × (funct3 word ≡ f3) × (rs1 ≡ rs1_in word) × (rs2 ≡ rs2_in word) × (bits 31 25 word * 2 ^ 5 + bits 11 7 word ≡ n)
+s_fields op f3 rs1 rs2 n h0 h1 h2 h3 h4 = (omega arith, omega arith, omega arith, omega arith, omega arith, omega arith)
 
-pub r_rs2 : (op f3 f7 rd rs1 rs2 : ℕ) → op < 2 ^ 7 → f3 < 2 ^ 3 → f7 < 2 ^ 7 → rd < 2 ^ 5 → rs1 < 2 ^ 5 → rs2 < 2 ^ 5 → rs2_in (word_r op f3 f7 rd rs1 rs2) ≡ rs2
-r_rs2 op f3 f7 rd rs1 rs2 h0 h1 h2 h3 h4 h5 = omega arith
+pub b_fields : (op f3 rs1 rs2 n : ℕ) → op < 2 ^ 7 → f3 < 2 ^ 3 → rs1 < 2 ^ 5 → rs2 < 2 ^ 5 → n < 2 ^ 13 → n % 2 ≡ 0
+    → let word : ℕ = word_b op f3 rs1 rs2 n in
+    (word < 2 ^ 32) × (opcode word ≡ op) × (funct3 word ≡ f3) × (rs1 ≡ rs1_in word) × (rs2 ≡ rs2_in word) × (bits 31 31 word * 2 ^ 12 + bits 7 7 word * 2 ^ 11 + bits 30 25 word * 2 ^ 5 + bits 11 8 word * 2 ^ 1 ≡ n)
+b_fields op f3 rs1 rs2 n h0 h1 h2 h3 h4 h5 = (omega arith, omega arith, omega arith, omega arith, omega arith, omega arith)
 
-pub r_fits : (op f3 f7 rd rs1 rs2 : ℕ) → op < 2 ^ 7 → f3 < 2 ^ 3 → f7 < 2 ^ 7 → rd < 2 ^ 5 → rs1 < 2 ^ 5 → rs2 < 2 ^ 5 → word_r op f3 f7 rd rs1 rs2 < 2 ^ 32
-r_fits op f3 f7 rd rs1 rs2 h0 h1 h2 h3 h4 h5 = omega arith
+pub u_fields : (op rd n : ℕ) → op < 2 ^ 7 → rd < 2 ^ 5 → n < 2 ^ 32 → n % 2 ^ 12 ≡ 0
+    → let word : ℕ = word_u op rd n in
+    (word < 2 ^ 32) × (opcode word ≡ op) × (rd ≡ rd_in word) × (bits 31 12 word * 2 ^ 12 ≡ n)
+u_fields op rd n h0 h1 h2 h3 = (omega arith, omega arith, omega arith, omega arith)
 
-pub i_opcode : (op f3 rd rs1 n : ℕ) → op < 2 ^ 7 → f3 < 2 ^ 3 → rd < 2 ^ 5 → rs1 < 2 ^ 5 → n < 2 ^ 12 → opcode (word_i op f3 rd rs1 n) ≡ op
-i_opcode op f3 rd rs1 n h0 h1 h2 h3 h4 = omega arith
-
-pub i_funct3 : (op f3 rd rs1 n : ℕ) → op < 2 ^ 7 → f3 < 2 ^ 3 → rd < 2 ^ 5 → rs1 < 2 ^ 5 → n < 2 ^ 12 → funct3 (word_i op f3 rd rs1 n) ≡ f3
-i_funct3 op f3 rd rs1 n h0 h1 h2 h3 h4 = omega arith
-
-pub i_rd : (op f3 rd rs1 n : ℕ) → op < 2 ^ 7 → f3 < 2 ^ 3 → rd < 2 ^ 5 → rs1 < 2 ^ 5 → n < 2 ^ 12 → rd_in (word_i op f3 rd rs1 n) ≡ rd
-i_rd op f3 rd rs1 n h0 h1 h2 h3 h4 = omega arith
-
-pub i_rs1 : (op f3 rd rs1 n : ℕ) → op < 2 ^ 7 → f3 < 2 ^ 3 → rd < 2 ^ 5 → rs1 < 2 ^ 5 → n < 2 ^ 12 → rs1_in (word_i op f3 rd rs1 n) ≡ rs1
-i_rs1 op f3 rd rs1 n h0 h1 h2 h3 h4 = omega arith
-
-pub i_imm : (op f3 rd rs1 n : ℕ) → op < 2 ^ 7 → f3 < 2 ^ 3 → rd < 2 ^ 5 → rs1 < 2 ^ 5 → n < 2 ^ 12 → bits 31 20 (word_i op f3 rd rs1 n) ≡ n
-i_imm op f3 rd rs1 n h0 h1 h2 h3 h4 = omega arith
-
-pub i_high_64 : (op f3 rd rs1 n : ℕ) → op < 2 ^ 7 → f3 < 2 ^ 3 → rd < 2 ^ 5 → rs1 < 2 ^ 5 → n < 2 ^ 12 → funct6 (word_i op f3 rd rs1 n) ≡ n / 2 ^ 6
-i_high_64 op f3 rd rs1 n h0 h1 h2 h3 h4 = omega arith
-
-pub i_low_64 : (op f3 rd rs1 n : ℕ) → op < 2 ^ 7 → f3 < 2 ^ 3 → rd < 2 ^ 5 → rs1 < 2 ^ 5 → n < 2 ^ 12 → amount_64 (word_i op f3 rd rs1 n) ≡ n % 2 ^ 6
-i_low_64 op f3 rd rs1 n h0 h1 h2 h3 h4 = omega arith
-
-pub i_high_32 : (op f3 rd rs1 n : ℕ) → op < 2 ^ 7 → f3 < 2 ^ 3 → rd < 2 ^ 5 → rs1 < 2 ^ 5 → n < 2 ^ 12 → funct7 (word_i op f3 rd rs1 n) ≡ n / 2 ^ 5
-i_high_32 op f3 rd rs1 n h0 h1 h2 h3 h4 = omega arith
-
-pub i_low_32 : (op f3 rd rs1 n : ℕ) → op < 2 ^ 7 → f3 < 2 ^ 3 → rd < 2 ^ 5 → rs1 < 2 ^ 5 → n < 2 ^ 12 → amount_32 (word_i op f3 rd rs1 n) ≡ n % 2 ^ 5
-i_low_32 op f3 rd rs1 n h0 h1 h2 h3 h4 = omega arith
-
-pub i_fits : (op f3 rd rs1 n : ℕ) → op < 2 ^ 7 → f3 < 2 ^ 3 → rd < 2 ^ 5 → rs1 < 2 ^ 5 → n < 2 ^ 12 → word_i op f3 rd rs1 n < 2 ^ 32
-i_fits op f3 rd rs1 n h0 h1 h2 h3 h4 = omega arith
-
-pub s_opcode : (op f3 rs1 rs2 n : ℕ) → op < 2 ^ 7 → f3 < 2 ^ 3 → rs1 < 2 ^ 5 → rs2 < 2 ^ 5 → n < 2 ^ 12 → opcode (word_s op f3 rs1 rs2 n) ≡ op
-s_opcode op f3 rs1 rs2 n h0 h1 h2 h3 h4 = omega arith
-
-pub s_funct3 : (op f3 rs1 rs2 n : ℕ) → op < 2 ^ 7 → f3 < 2 ^ 3 → rs1 < 2 ^ 5 → rs2 < 2 ^ 5 → n < 2 ^ 12 → funct3 (word_s op f3 rs1 rs2 n) ≡ f3
-s_funct3 op f3 rs1 rs2 n h0 h1 h2 h3 h4 = omega arith
-
-pub s_rs1 : (op f3 rs1 rs2 n : ℕ) → op < 2 ^ 7 → f3 < 2 ^ 3 → rs1 < 2 ^ 5 → rs2 < 2 ^ 5 → n < 2 ^ 12 → rs1_in (word_s op f3 rs1 rs2 n) ≡ rs1
-s_rs1 op f3 rs1 rs2 n h0 h1 h2 h3 h4 = omega arith
-
-pub s_rs2 : (op f3 rs1 rs2 n : ℕ) → op < 2 ^ 7 → f3 < 2 ^ 3 → rs1 < 2 ^ 5 → rs2 < 2 ^ 5 → n < 2 ^ 12 → rs2_in (word_s op f3 rs1 rs2 n) ≡ rs2
-s_rs2 op f3 rs1 rs2 n h0 h1 h2 h3 h4 = omega arith
-
-pub s_high : (op f3 rs1 rs2 n : ℕ) → op < 2 ^ 7 → f3 < 2 ^ 3 → rs1 < 2 ^ 5 → rs2 < 2 ^ 5 → n < 2 ^ 12 → bits 31 25 (word_s op f3 rs1 rs2 n) ≡ n / 2 ^ 5
-s_high op f3 rs1 rs2 n h0 h1 h2 h3 h4 = omega arith
-
-pub s_low : (op f3 rs1 rs2 n : ℕ) → op < 2 ^ 7 → f3 < 2 ^ 3 → rs1 < 2 ^ 5 → rs2 < 2 ^ 5 → n < 2 ^ 12 → bits 11 7 (word_s op f3 rs1 rs2 n) ≡ n % 2 ^ 5
-s_low op f3 rs1 rs2 n h0 h1 h2 h3 h4 = omega arith
-
-pub s_fits : (op f3 rs1 rs2 n : ℕ) → op < 2 ^ 7 → f3 < 2 ^ 3 → rs1 < 2 ^ 5 → rs2 < 2 ^ 5 → n < 2 ^ 12 → word_s op f3 rs1 rs2 n < 2 ^ 32
-s_fits op f3 rs1 rs2 n h0 h1 h2 h3 h4 = omega arith
-
-pub b_opcode : (op f3 rs1 rs2 n : ℕ) → op < 2 ^ 7 → f3 < 2 ^ 3 → rs1 < 2 ^ 5 → rs2 < 2 ^ 5 → n < 2 ^ 13 → opcode (word_b op f3 rs1 rs2 n) ≡ op
-b_opcode op f3 rs1 rs2 n h0 h1 h2 h3 h4 = omega arith
-
-pub b_funct3 : (op f3 rs1 rs2 n : ℕ) → op < 2 ^ 7 → f3 < 2 ^ 3 → rs1 < 2 ^ 5 → rs2 < 2 ^ 5 → n < 2 ^ 13 → funct3 (word_b op f3 rs1 rs2 n) ≡ f3
-b_funct3 op f3 rs1 rs2 n h0 h1 h2 h3 h4 = omega arith
-
-pub b_rs1 : (op f3 rs1 rs2 n : ℕ) → op < 2 ^ 7 → f3 < 2 ^ 3 → rs1 < 2 ^ 5 → rs2 < 2 ^ 5 → n < 2 ^ 13 → rs1_in (word_b op f3 rs1 rs2 n) ≡ rs1
-b_rs1 op f3 rs1 rs2 n h0 h1 h2 h3 h4 = omega arith
-
-pub b_rs2 : (op f3 rs1 rs2 n : ℕ) → op < 2 ^ 7 → f3 < 2 ^ 3 → rs1 < 2 ^ 5 → rs2 < 2 ^ 5 → n < 2 ^ 13 → rs2_in (word_b op f3 rs1 rs2 n) ≡ rs2
-b_rs2 op f3 rs1 rs2 n h0 h1 h2 h3 h4 = omega arith
-
-pub b_12 : (op f3 rs1 rs2 n : ℕ) → op < 2 ^ 7 → f3 < 2 ^ 3 → rs1 < 2 ^ 5 → rs2 < 2 ^ 5 → n < 2 ^ 13 → bits 31 31 (word_b op f3 rs1 rs2 n) ≡ n / 2 ^ 12
-b_12 op f3 rs1 rs2 n h0 h1 h2 h3 h4 = omega arith
-
-pub b_11 : (op f3 rs1 rs2 n : ℕ) → op < 2 ^ 7 → f3 < 2 ^ 3 → rs1 < 2 ^ 5 → rs2 < 2 ^ 5 → n < 2 ^ 13 → bits 7 7 (word_b op f3 rs1 rs2 n) ≡ n / 2 ^ 11 % 2
-b_11 op f3 rs1 rs2 n h0 h1 h2 h3 h4 = omega arith
-
-pub b_10 : (op f3 rs1 rs2 n : ℕ) → op < 2 ^ 7 → f3 < 2 ^ 3 → rs1 < 2 ^ 5 → rs2 < 2 ^ 5 → n < 2 ^ 13 → bits 30 25 (word_b op f3 rs1 rs2 n) ≡ n / 2 ^ 5 % 2 ^ 6
-b_10 op f3 rs1 rs2 n h0 h1 h2 h3 h4 = omega arith
-
-pub b_4 : (op f3 rs1 rs2 n : ℕ) → op < 2 ^ 7 → f3 < 2 ^ 3 → rs1 < 2 ^ 5 → rs2 < 2 ^ 5 → n < 2 ^ 13 → bits 11 8 (word_b op f3 rs1 rs2 n) ≡ n / 2 % 2 ^ 4
-b_4 op f3 rs1 rs2 n h0 h1 h2 h3 h4 = omega arith
-
-pub b_fits : (op f3 rs1 rs2 n : ℕ) → op < 2 ^ 7 → f3 < 2 ^ 3 → rs1 < 2 ^ 5 → rs2 < 2 ^ 5 → n < 2 ^ 13 → word_b op f3 rs1 rs2 n < 2 ^ 32
-b_fits op f3 rs1 rs2 n h0 h1 h2 h3 h4 = omega arith
-
-pub u_opcode : (op rd n : ℕ) → op < 2 ^ 7 → rd < 2 ^ 5 → n < 2 ^ 32 → opcode (word_u op rd n) ≡ op
-u_opcode op rd n h0 h1 h2 = omega arith
-
-pub u_rd : (op rd n : ℕ) → op < 2 ^ 7 → rd < 2 ^ 5 → n < 2 ^ 32 → rd_in (word_u op rd n) ≡ rd
-u_rd op rd n h0 h1 h2 = omega arith
-
-pub u_imm : (op rd n : ℕ) → op < 2 ^ 7 → rd < 2 ^ 5 → n < 2 ^ 32 → bits 31 12 (word_u op rd n) ≡ n / 2 ^ 12
-u_imm op rd n h0 h1 h2 = omega arith
-
-pub u_fits : (op rd n : ℕ) → op < 2 ^ 7 → rd < 2 ^ 5 → n < 2 ^ 32 → word_u op rd n < 2 ^ 32
-u_fits op rd n h0 h1 h2 = omega arith
-
-pub j_opcode : (op rd n : ℕ) → op < 2 ^ 7 → rd < 2 ^ 5 → n < 2 ^ 21 → opcode (word_j op rd n) ≡ op
-j_opcode op rd n h0 h1 h2 = omega arith
-
-pub j_rd : (op rd n : ℕ) → op < 2 ^ 7 → rd < 2 ^ 5 → n < 2 ^ 21 → rd_in (word_j op rd n) ≡ rd
-j_rd op rd n h0 h1 h2 = omega arith
-
-pub j_20 : (op rd n : ℕ) → op < 2 ^ 7 → rd < 2 ^ 5 → n < 2 ^ 21 → bits 31 31 (word_j op rd n) ≡ n / 2 ^ 20
-j_20 op rd n h0 h1 h2 = omega arith
-
-pub j_19 : (op rd n : ℕ) → op < 2 ^ 7 → rd < 2 ^ 5 → n < 2 ^ 21 → bits 19 12 (word_j op rd n) ≡ n / 2 ^ 12 % 2 ^ 8
-j_19 op rd n h0 h1 h2 = omega arith
-
-pub j_11 : (op rd n : ℕ) → op < 2 ^ 7 → rd < 2 ^ 5 → n < 2 ^ 21 → bits 20 20 (word_j op rd n) ≡ n / 2 ^ 11 % 2
-j_11 op rd n h0 h1 h2 = omega arith
-
-pub j_10 : (op rd n : ℕ) → op < 2 ^ 7 → rd < 2 ^ 5 → n < 2 ^ 21 → bits 30 21 (word_j op rd n) ≡ n / 2 % 2 ^ 10
-j_10 op rd n h0 h1 h2 = omega arith
-
-pub j_fits : (op rd n : ℕ) → op < 2 ^ 7 → rd < 2 ^ 5 → n < 2 ^ 21 → word_j op rd n < 2 ^ 32
-j_fits op rd n h0 h1 h2 = omega arith
+pub j_fields : (op rd n : ℕ) → op < 2 ^ 7 → rd < 2 ^ 5 → n < 2 ^ 21 → n % 2 ≡ 0
+    → let word : ℕ = word_j op rd n in
+    (word < 2 ^ 32) × (opcode word ≡ op) × (rd ≡ rd_in word) × (bits 31 31 word * 2 ^ 20 + bits 19 12 word * 2 ^ 12 + bits 20 20 word * 2 ^ 11 + bits 30 21 word * 2 ^ 1 ≡ n)
+j_fields op rd n h0 h1 h2 h3 = (omega arith, omega arith, omega arith, omega arith)
 
 -- a word from its fields
 pub r_whole : (word : ℕ) → word < 2 ^ 32 → word ≡ word_r (opcode word) (funct3 word) (funct7 word) (rd_in word) (rs1_in word) (rs2_in word)

@@ -15,7 +15,7 @@ use Rattle.rv_inst.specs.declared.inst.Inst.TheVariants.{Lui, Auipc, Jal, Jalr, 
 use Rattle.rv_inst.specs.Fields.{bits, opcode, rd_in, funct3, rs1_in, rs2_in, funct7, funct6, funct5, aq_in, rl_in, imm_i, imm_s, imm_b, imm_u, imm_j, amount_64, amount_32}
 use Rattle.rv_inst.specs.Rows.{IsRow, ImmCodes, Number, Shift64, Shift32, HasImm, HasCodes, IsAtomic, imm_codes, alu_codes, amo_code, branch_code, load_code, store_code, wide_code}
 use Rattle.rv_inst.specs.Spelling.{IsSpelled, IsNumber, IsMultiple, IsAmount, low_bits, word_r, word_i, word_s, word_b, word_u, word_j, word_imm, word_of, atomic_code}
-use Rattle.rv_inst.proofs.FormatLemmas.{r_opcode, r_funct3, r_funct7, r_rd, r_rs1, r_rs2, r_fits, i_opcode, i_funct3, i_rd, i_rs1, i_imm, i_high_64, i_low_64, i_high_32, i_low_32, i_fits, s_opcode, s_funct3, s_rs1, s_rs2, s_high, s_low, s_fits, b_opcode, b_funct3, b_rs1, b_rs2, b_12, b_11, b_10, b_4, b_fits, u_opcode, u_rd, u_imm, u_fits, j_opcode, j_rd, j_20, j_19, j_11, j_10, j_fits, r_whole, i_whole, s_whole, b_whole, u_whole, j_whole, low_12, fits_12, signed_12, low_13, fits_13, signed_13, low_21, fits_21, signed_21, low_32, fits_32, signed_32}
+use Rattle.rv_inst.proofs.FormatLemmas.{r_fields, i_fields, shift_fields_64, shift_fields_32, s_fields, b_fields, u_fields, j_fields, r_whole, i_whole, s_whole, b_whole, u_whole, j_whole, low_12, fits_12, signed_12, low_13, fits_13, signed_13, low_21, fits_21, signed_21, low_32, fits_32, signed_32}
 
 -- codes are in range
 codes_fit : (op : AluOp) → ((alu_codes op).0 < 2 ^ 7) × ((alu_codes op).1 < 2 ^ 3) × ((alu_codes op).2 < 2 ^ 7)
@@ -98,54 +98,26 @@ atomic_parts word f5 false false h e = (omega arith, grind (arith, nat_tests), g
 
 atomic_row : (f5 rd rs1 rs2 : ℕ) (wide aq rl : Bool) → f5 < 2 ^ 5 → rd < 2 ^ 5 → rs1 < 2 ^ 5 → rs2 < 2 ^ 5 → IsAtomic (word_r 0x2F (wide_code wide) (atomic_code f5 aq rl) rd rs1 rs2) f5 wide aq rl
 atomic_row f5 rd rs1 rs2 wide aq rl hf h1 h2 h3 =
-    let o : 0x2F < 2 ^ 7 = omega arith in
-    let f3 = wide_fits wide in
-    let f7 = atomic_fits f5 aq rl hf in
-    let p = atomic_parts (word_r 0x2F (wide_code wide) (atomic_code f5 aq rl) rd rs1 rs2) f5 aq rl hf (r_funct7 0x2F (wide_code wide) (atomic_code f5 aq rl) rd rs1 rs2 o f3 f7 h1 h2 h3) in
-    (r_opcode 0x2F (wide_code wide) (atomic_code f5 aq rl) rd rs1 rs2 o f3 f7 h1 h2 h3, r_funct3 0x2F (wide_code wide) (atomic_code f5 aq rl) rd rs1 rs2 o f3 f7 h1 h2 h3, p.0, p.1, p.2)
+    let f = r_fields 0x2F (wide_code wide) (atomic_code f5 aq rl) rd rs1 rs2 (omega arith) (wide_fits wide) (atomic_fits f5 aq rl hf) h1 h2 h3 in
+    let p = atomic_parts (word_r 0x2F (wide_code wide) (atomic_code f5 aq rl) rd rs1 rs2) f5 aq rl hf f.3 in
+    (f.1, f.2, p.0, p.1, p.2)
 
 -- a word of format I, with its number
 i_row : (op f3 rd rs1 : ℕ) (off : ℤ) → op < 2 ^ 7 → f3 < 2 ^ 3 → rd < 2 ^ 5 → rs1 < 2 ^ 5 → IsNumber 12 off
     → let word : ℕ = word_i op f3 rd rs1 (low_bits 12 off) in (word < 2 ^ 32) × ((opcode word ≡ op) × (funct3 word ≡ f3) × (rd ≡ rd_in word) × (rs1 ≡ rs1_in word) × (off ≡ imm_i word))
 i_row op f3 rd rs1 off a b c d n =
-    let m = fits_12 off n in (
-      i_fits op f3 rd rs1 (low_bits 12 off) a b c d m,
-      (
-        i_opcode op f3 rd rs1 (low_bits 12 off) a b c d m,
-        i_funct3 op f3 rd rs1 (low_bits 12 off) a b c d m,
-        sym (i_rd op f3 rd rs1 (low_bits 12 off) a b c d m),
-        sym (i_rs1 op f3 rd rs1 (low_bits 12 off) a b c d m),
-        sym (ap (signed 12) (i_imm op f3 rd rs1 (low_bits 12 off) a b c d m) ∙ signed_12 off n),
-      ),
-    )
+    let f = i_fields op f3 rd rs1 (low_bits 12 off) a b c d (fits_12 off n) in
+    (f.0, (f.1, f.2, f.3, f.4, sym (ap (signed 12) f.5 ∙ signed_12 off n)))
 
 r_row : (op f3 f7 rd rs1 rs2 : ℕ) → op < 2 ^ 7 → f3 < 2 ^ 3 → f7 < 2 ^ 7 → rd < 2 ^ 5 → rs1 < 2 ^ 5 → rs2 < 2 ^ 5
     → let word : ℕ = word_r op f3 f7 rd rs1 rs2 in (word < 2 ^ 32) × (HasCodes word (op, f3, f7) × (rd ≡ rd_in word) × (rs1 ≡ rs1_in word) × (rs2 ≡ rs2_in word))
-r_row op f3 f7 rd rs1 rs2 a b c d e f = (
-  r_fits op f3 f7 rd rs1 rs2 a b c d e f,
-  (
-    (r_opcode op f3 f7 rd rs1 rs2 a b c d e f, r_funct3 op f3 f7 rd rs1 rs2 a b c d e f, r_funct7 op f3 f7 rd rs1 rs2 a b c d e f),
-    sym (r_rd op f3 f7 rd rs1 rs2 a b c d e f),
-    sym (r_rs1 op f3 f7 rd rs1 rs2 a b c d e f),
-    sym (r_rs2 op f3 f7 rd rs1 rs2 a b c d e f),
-  ),
-)
+r_row op f3 f7 rd rs1 rs2 a b c d e g = let f = r_fields op f3 f7 rd rs1 rs2 a b c d e g in (f.0, ((f.1, f.2, f.3), f.4, f.5, f.6))
 
 s_row : (op f3 rs1 rs2 : ℕ) (off : ℤ) → op < 2 ^ 7 → f3 < 2 ^ 3 → rs1 < 2 ^ 5 → rs2 < 2 ^ 5 → IsNumber 12 off
     → let word : ℕ = word_s op f3 rs1 rs2 (low_bits 12 off) in (word < 2 ^ 32) × ((opcode word ≡ op) × (funct3 word ≡ f3) × (rs1 ≡ rs1_in word) × (rs2 ≡ rs2_in word) × (off ≡ imm_s word))
 s_row op f3 rs1 rs2 off a b c d n =
-    let m = fits_12 off n in
-    let k : ℕ = low_bits 12 off in
-    let whole : bits 31 25 (word_s op f3 rs1 rs2 k) * 2 ^ 5 + bits 11 7 (word_s op f3 rs1 rs2 k) ≡ k = rw (s_high op f3 rs1 rs2 k a b c d m, s_low op f3 rs1 rs2 k a b c d m) (omega arith) in (
-      s_fits op f3 rs1 rs2 k a b c d m,
-      (
-        s_opcode op f3 rs1 rs2 k a b c d m,
-        s_funct3 op f3 rs1 rs2 k a b c d m,
-        sym (s_rs1 op f3 rs1 rs2 k a b c d m),
-        sym (s_rs2 op f3 rs1 rs2 k a b c d m),
-        sym (ap (signed 12) whole ∙ signed_12 off n),
-      ),
-    )
+    let f = s_fields op f3 rs1 rs2 (low_bits 12 off) a b c d (fits_12 off n) in
+    (f.0, (f.1, f.2, f.3, f.4, sym (ap (signed 12) f.5 ∙ signed_12 off n)))
 
 -- the low bits of a multiple
 even_low : (z : ℤ) → IsNumber 13 z → IsMultiple 2 z → low_bits 13 z % 2 ≡ 0
@@ -163,43 +135,20 @@ pages_low (negsuc n) h e = omega (arith, ints)
 b_row : (f3 rs1 rs2 : ℕ) (off : ℤ) → f3 < 2 ^ 3 → rs1 < 2 ^ 5 → rs2 < 2 ^ 5 → IsNumber 13 off → IsMultiple 2 off
     → let word : ℕ = word_b 0x63 f3 rs1 rs2 (low_bits 13 off) in (word < 2 ^ 32) × ((opcode word ≡ 0x63) × (funct3 word ≡ f3) × (rs1 ≡ rs1_in word) × (rs2 ≡ rs2_in word) × (off ≡ imm_b word))
 b_row f3 rs1 rs2 off b c d n e =
-    let a : 0x63 < 2 ^ 7 = omega arith in
-    let m = fits_13 off n in
-    let k : ℕ = low_bits 13 off in
-    let even : k % 2 ≡ 0 = even_low off n e in
-    let word : ℕ = word_b 0x63 f3 rs1 rs2 k in
-    let whole : bits 31 31 word * 2 ^ 12 + bits 7 7 word * 2 ^ 11 + bits 30 25 word * 2 ^ 5 + bits 11 8 word * 2 ^ 1 ≡ k
-    = rw (b_12 0x63 f3 rs1 rs2 k a b c d m, b_11 0x63 f3 rs1 rs2 k a b c d m, b_10 0x63 f3 rs1 rs2 k a b c d m, b_4 0x63 f3 rs1 rs2 k a b c d m) (omega arith) in (
-      b_fits 0x63 f3 rs1 rs2 k a b c d m,
-      (
-        b_opcode 0x63 f3 rs1 rs2 k a b c d m,
-        b_funct3 0x63 f3 rs1 rs2 k a b c d m,
-        sym (b_rs1 0x63 f3 rs1 rs2 k a b c d m),
-        sym (b_rs2 0x63 f3 rs1 rs2 k a b c d m),
-        sym (ap (signed 13) whole ∙ signed_13 off n),
-      ),
-    )
+    let f = b_fields 0x63 f3 rs1 rs2 (low_bits 13 off) (omega arith) b c d (fits_13 off n) (even_low off n e) in
+    (f.0, (f.1, f.2, f.3, f.4, sym (ap (signed 13) f.5 ∙ signed_13 off n)))
 
 u_row : (op rd : ℕ) (imm : ℤ) → op < 2 ^ 7 → rd < 2 ^ 5 → IsNumber 32 imm → IsMultiple (2 ^ 12) imm
     → let word : ℕ = word_u op rd (low_bits 32 imm) in (word < 2 ^ 32) × ((opcode word ≡ op) × (rd ≡ rd_in word) × (imm ≡ imm_u word))
 u_row op rd imm a b n e =
-    let m = fits_32 imm n in
-    let k : ℕ = low_bits 32 imm in
-    let zeros : k % 2 ^ 12 ≡ 0 = pages_low imm n e in
-    let whole : bits 31 12 (word_u op rd k) * 2 ^ 12 ≡ k = rw (u_imm op rd k a b m) (omega arith) in
-    (u_fits op rd k a b m, (u_opcode op rd k a b m, sym (u_rd op rd k a b m), sym (ap (signed 32) whole ∙ signed_32 imm n)))
+    let f = u_fields op rd (low_bits 32 imm) a b (fits_32 imm n) (pages_low imm n e) in
+    (f.0, (f.1, f.2, sym (ap (signed 32) f.3 ∙ signed_32 imm n)))
 
 j_row : (rd : ℕ) (off : ℤ) → rd < 2 ^ 5 → IsNumber 21 off → IsMultiple 2 off
     → let word : ℕ = word_j 0x6F rd (low_bits 21 off) in (word < 2 ^ 32) × ((opcode word ≡ 0x6F) × (rd ≡ rd_in word) × (off ≡ imm_j word))
 j_row rd off b n e =
-    let a : 0x6F < 2 ^ 7 = omega arith in
-    let m = fits_21 off n in
-    let k : ℕ = low_bits 21 off in
-    let even : k % 2 ≡ 0 = even_low_21 off n e in
-    let word : ℕ = word_j 0x6F rd k in
-    let whole : bits 31 31 word * 2 ^ 20 + bits 19 12 word * 2 ^ 12 + bits 20 20 word * 2 ^ 11 + bits 30 21 word * 2 ^ 1 ≡ k
-    = rw (j_20 0x6F rd k a b m, j_19 0x6F rd k a b m, j_11 0x6F rd k a b m, j_10 0x6F rd k a b m) (omega arith) in
-    (j_fits 0x6F rd k a b m, (j_opcode 0x6F rd k a b m, sym (j_rd 0x6F rd k a b m), sym (ap (signed 21) whole ∙ signed_21 off n)))
+    let f = j_fields 0x6F rd (low_bits 21 off) (omega arith) b (fits_21 off n) (even_low_21 off n e) in
+    (f.0, (f.1, f.2, sym (ap (signed 21) f.3 ∙ signed_21 off n)))
 
 -- the immediate of a shift is its amount below the code above it
 amount : (bits : ℕ) (z : ℤ) → IsAmount bits z → z ≡ pos (unsigned_abs z)
@@ -220,16 +169,11 @@ shift_64 : (op f3 f6 rd rs1 : ℕ) (imm : ℤ) → op < 2 ^ 7 → f3 < 2 ^ 3 →
 shift_64 op f3 f6 rd rs1 imm a b h c d n =
     let low = amount_low imm n in
     let k : ℕ = f6 * 2 ^ 6 + unsigned_abs imm in
-    let m : k < 2 ^ 12 = omega arith in
+    let f = i_fields op f3 rd rs1 k a b c d (omega arith) in
+    let s = shift_fields_64 (word_i op f3 rd rs1 k) k f.5 in
     let high : k / 2 ^ 6 ≡ f6 = omega arith in
-    let rest : k % 2 ^ 6 ≡ unsigned_abs imm = omega arith in (
-      i_fits op f3 rd rs1 k a b c d m,
-      (
-        (i_opcode op f3 rd rs1 k a b c d m, i_funct3 op f3 rd rs1 k a b c d m, i_high_64 op f3 rd rs1 k a b c d m ∙ high, amount 64 imm n ∙ ap pos (sym (i_low_64 op f3 rd rs1 k a b c d m ∙ rest))),
-        sym (i_rd op f3 rd rs1 k a b c d m),
-        sym (i_rs1 op f3 rd rs1 k a b c d m),
-      ),
-    )
+    let rest : k % 2 ^ 6 ≡ unsigned_abs imm = omega arith in
+    (f.0, ((f.1, f.2, s.0 ∙ high, amount 64 imm n ∙ ap pos (sym (s.1 ∙ rest))), f.3, f.4))
 
 shift_32 : (op f3 f7 rd rs1 : ℕ) (imm : ℤ) → op < 2 ^ 7 → f3 < 2 ^ 3 → f7 < 2 ^ 7 → rd < 2 ^ 5 → rs1 < 2 ^ 5 → IsAmount 32 imm
     → let word : ℕ = word_i op f3 rd rs1 (f7 * 2 ^ 5 + unsigned_abs imm) in
@@ -237,16 +181,11 @@ shift_32 : (op f3 f7 rd rs1 : ℕ) (imm : ℤ) → op < 2 ^ 7 → f3 < 2 ^ 3 →
 shift_32 op f3 f7 rd rs1 imm a b h c d n =
     let low = amount_low_32 imm n in
     let k : ℕ = f7 * 2 ^ 5 + unsigned_abs imm in
-    let m : k < 2 ^ 12 = omega arith in
+    let f = i_fields op f3 rd rs1 k a b c d (omega arith) in
+    let s = shift_fields_32 (word_i op f3 rd rs1 k) k f.5 in
     let high : k / 2 ^ 5 ≡ f7 = omega arith in
-    let rest : k % 2 ^ 5 ≡ unsigned_abs imm = omega arith in (
-      i_fits op f3 rd rs1 k a b c d m,
-      (
-        (i_opcode op f3 rd rs1 k a b c d m, i_funct3 op f3 rd rs1 k a b c d m, i_high_32 op f3 rd rs1 k a b c d m ∙ high, amount 32 imm n ∙ ap pos (sym (i_low_32 op f3 rd rs1 k a b c d m ∙ rest))),
-        sym (i_rd op f3 rd rs1 k a b c d m),
-        sym (i_rs1 op f3 rd rs1 k a b c d m),
-      ),
-    )
+    let rest : k % 2 ^ 5 ≡ unsigned_abs imm = omega arith in
+    (f.0, ((f.1, f.2, s.0 ∙ high, amount 32 imm n ∙ ap pos (sym (s.1 ∙ rest))), f.3, f.4))
 
 number_row : (op f3 rd rs1 : ℕ) (imm : ℤ) → op < 2 ^ 7 → f3 < 2 ^ 3 → rd < 2 ^ 5 → rs1 < 2 ^ 5 → IsNumber 12 imm
     → let word : ℕ = word_i op f3 rd rs1 (low_bits 12 imm) in (word < 2 ^ 32) × (((opcode word ≡ op) × (funct3 word ≡ f3) × (imm ≡ imm_i word)) × (rd ≡ rd_in word) × (rs1 ≡ rs1_in word))

@@ -145,11 +145,19 @@ product_word_at f3 =
 
 -- the operation on two registers of a funct7 and a funct3, where the opcode is 33
 abbrev pub op_at : ℕ → ℕ → Option AluOp
-op_at f7 f3 = if f7 == 0x00 then base_at f3 else if f7 == 0x20 then other_at f3 else if f7 == 0x01 then product_at f3 else None
+op_at f7 f3 =
+    if f7 == 0x00 then base_at f3
+    else if f7 == 0x20 then other_at f3
+    else if f7 == 0x01 then product_at f3
+    else None
 
 -- the operation on two registers of a funct7 and a funct3, where the opcode is 3B
 abbrev pub op_word_at : ℕ → ℕ → Option AluOp
-op_word_at f7 f3 = if f7 == 0x00 then base_word_at f3 else if f7 == 0x20 then other_word_at f3 else if f7 == 0x01 then product_word_at f3 else None
+op_word_at f7 f3 =
+    if f7 == 0x00 then base_word_at f3
+    else if f7 == 0x20 then other_word_at f3
+    else if f7 == 0x01 then product_word_at f3
+    else None
 
 -- an operation on two registers, with the registers of a word
 abbrev pub alu_with : ℕ → Option AluOp → Option Inst
@@ -157,11 +165,17 @@ alu_with word op = option_map (λ op. Alu op (rd_in word) (rs1_in word) (rs2_in 
 
 -- the instruction of a word that has the opcode of fences
 abbrev pub fence_of : ℕ → Option Inst
-fence_of word = if funct3 word == 0 then Some (Fence word) else if funct3 word == 1 then Some (FenceI word) else None
+fence_of word =
+    if funct3 word == 0 then Some (Fence word)
+    else if funct3 word == 1 then Some (FenceI word)
+    else None
 
 -- the instruction of a word that has the opcode of calls
 abbrev pub system_of : ℕ → Option Inst
-system_of word = if word == 0x00000073 then Some Ecall else if word == 0x00100073 then Some Ebreak else None
+system_of word =
+    if word == 0x00000073 then Some Ecall
+    else if word == 0x00100073 then Some Ebreak
+    else None
 
 -- the atomic memory operation of a funct5
 abbrev pub amo_at : ℕ → Option AmoOp
@@ -194,7 +208,10 @@ atomic_with word wide =
 
 -- the instruction of a word that has the opcode of atomic instructions
 abbrev pub atomic_of : ℕ → Option Inst
-atomic_of word = if funct3 word == 2 then atomic_with word false else if funct3 word == 3 then atomic_with word true else None
+atomic_of word =
+    if funct3 word == 2 then atomic_with word false
+    else if funct3 word == 3 then atomic_with word true
+    else None
 
 -- the instruction of a word that has this opcode
 unfoldable pub inst_by : ℕ → ℕ → Option Inst

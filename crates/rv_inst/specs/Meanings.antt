@@ -38,14 +38,29 @@ want_of (Lui rd imm) arch = Nothing
 want_of (Auipc rd imm) arch = Nothing
 want_of (Jal rd off) arch = to_jump (at_offset arch.pc off)
 want_of (Jalr rd rs1 off) arch = to_jump (jalr_target (slice_index arch.x rs1) off)
-want_of (Branch cond rs1 rs2 off) arch = if taken_of cond (slice_index arch.x rs1) (slice_index arch.x rs2) then to_jump (at_offset arch.pc off) else Nothing
-want_of (Load width sign rd rs1 off) arch = let va = at_offset (slice_index arch.x rs1) off in aligned va width LOAD_ADDRESS_MISALIGNED (Look va width)
-want_of (Store width rs1 rs2 off) arch = let va = at_offset (slice_index arch.x rs1) off in aligned va width STORE_ADDRESS_MISALIGNED (Put va width (slice_index arch.x rs2))
+want_of (Branch cond rs1 rs2 off) arch =
+    if taken_of cond (slice_index arch.x rs1) (slice_index arch.x rs2)
+    then to_jump (at_offset arch.pc off)
+    else Nothing
+want_of (Load width sign rd rs1 off) arch =
+    let va = at_offset (slice_index arch.x rs1) off in
+    aligned va width LOAD_ADDRESS_MISALIGNED (Look va width)
+want_of (Store width rs1 rs2 off) arch =
+    let va = at_offset (slice_index arch.x rs1) off in
+    aligned va width STORE_ADDRESS_MISALIGNED (Put va width (slice_index arch.x rs2))
 want_of (AluImm op rd rs1 imm) arch = Nothing
 want_of (Alu op rd rs1 rs2) arch = Nothing
-want_of (Amo op wide aq rl rd rs1 rs2) arch = let va = slice_index arch.x rs1 in aligned va (atomic_width wide) STORE_ADDRESS_MISALIGNED (Swap va (atomic_width wide) op (slice_index arch.x rs2))
-want_of (Lr wide aq rl rd rs1) arch = let va = slice_index arch.x rs1 in aligned va (atomic_width wide) LOAD_ADDRESS_MISALIGNED (Reserve va (atomic_width wide))
-want_of (Sc wide aq rl rd rs1 rs2) arch = let va = slice_index arch.x rs1 in aligned va (atomic_width wide) STORE_ADDRESS_MISALIGNED (PutIf va (atomic_width wide) (slice_index arch.x rs2))
+want_of (Amo op wide aq rl rd rs1 rs2) arch =
+    let va = slice_index arch.x rs1 in
+    let width = atomic_width wide in
+    aligned va width STORE_ADDRESS_MISALIGNED (Swap va width op (slice_index arch.x rs2))
+want_of (Lr wide aq rl rd rs1) arch =
+    let va = slice_index arch.x rs1 in
+    aligned va (atomic_width wide) LOAD_ADDRESS_MISALIGNED (Reserve va (atomic_width wide))
+want_of (Sc wide aq rl rd rs1 rs2) arch =
+    let va = slice_index arch.x rs1 in
+    let width = atomic_width wide in
+    aligned va width STORE_ADDRESS_MISALIGNED (PutIf va width (slice_index arch.x rs2))
 want_of (Fence raw) arch = Nothing
 want_of (FenceI raw) arch = Nothing
 want_of Ecall arch = Call
@@ -81,11 +96,14 @@ meaning_of (Auipc rd imm) arch got = with_written arch rd (at_offset arch.pc imm
 meaning_of (Jal rd off) arch got = jump_and_link arch rd (at_offset arch.pc off)
 meaning_of (Jalr rd rs1 off) arch got = jump_and_link arch rd (jalr_target (slice_index arch.x rs1) off)
 meaning_of (Branch cond rs1 rs2 off) arch got =
-    record { pc = if taken_of cond (slice_index arch.x rs1) (slice_index arch.x rs2) then at_offset arch.pc off else next_pc arch.pc; x = arch.x }
+    let is_taken = taken_of cond (slice_index arch.x rs1) (slice_index arch.x rs2) in
+    record { pc = if is_taken then at_offset arch.pc off else next_pc arch.pc; x = arch.x }
 meaning_of (Load width sign rd rs1 off) arch got = with_written arch rd (loaded width sign got)
 meaning_of (Store width rs1 rs2 off) arch got = record { pc = next_pc arch.pc; x = arch.x }
-meaning_of (AluImm op rd rs1 imm) arch got = with_written arch rd (alu_of op (slice_index arch.x rs1) (cast_unsigned w64 imm))
-meaning_of (Alu op rd rs1 rs2) arch got = with_written arch rd (alu_of op (slice_index arch.x rs1) (slice_index arch.x rs2))
+meaning_of (AluImm op rd rs1 imm) arch got =
+    with_written arch rd (alu_of op (slice_index arch.x rs1) (cast_unsigned w64 imm))
+meaning_of (Alu op rd rs1 rs2) arch got =
+    with_written arch rd (alu_of op (slice_index arch.x rs1) (slice_index arch.x rs2))
 meaning_of (Amo op wide aq rl rd rs1 rs2) arch got = with_written arch rd (loaded (atomic_width wide) true got)
 meaning_of (Lr wide aq rl rd rs1) arch got = with_written arch rd (loaded (atomic_width wide) true got)
 meaning_of (Sc wide aq rl rd rs1 rs2) arch got = with_written arch rd got

@@ -29,20 +29,48 @@ IsImm (Some (Shift64 op f3 f6)) imm = IsAmount 64 imm
 IsImm (Some (Shift32 op f3 f7)) imm = IsAmount 32 imm
 IsImm None imm = ⊥
 
+-- three registers, as format R has them
+abbrev pub FitsR : ℕ → ℕ → ℕ → Type 0
+FitsR rd rs1 rs2 = IsRegister rd × IsRegister rs1 × IsRegister rs2
+
+-- two registers and a number, as format I has them
+abbrev pub FitsI : ℕ → ℕ → ℤ → Type 0
+FitsI rd rs1 imm = IsRegister rd × IsRegister rs1 × IsNumber 12 imm
+
+-- two registers and an amount of a shift of so many bits
+abbrev pub FitsShift : ℕ → ℕ → ℕ → ℤ → Type 0
+FitsShift bits rd rs1 imm = IsRegister rd × IsRegister rs1 × IsAmount bits imm
+
+-- two registers and a number, as format S has them
+abbrev pub FitsS : ℕ → ℕ → ℤ → Type 0
+FitsS rs1 rs2 imm = IsRegister rs1 × IsRegister rs2 × IsNumber 12 imm
+
+-- two registers and an offset, as format B has them
+abbrev pub FitsB : ℕ → ℕ → ℤ → Type 0
+FitsB rs1 rs2 off = IsRegister rs1 × IsRegister rs2 × IsNumber 13 off × IsMultiple 2 off
+
+-- a register and a number, as format U has them
+abbrev pub FitsU : ℕ → ℤ → Type 0
+FitsU rd imm = IsRegister rd × IsNumber 32 imm × IsMultiple (2 ^ 12) imm
+
+-- a register and an offset, as format J has them
+abbrev pub FitsJ : ℕ → ℤ → Type 0
+FitsJ rd off = IsRegister rd × IsNumber 21 off × IsMultiple 2 off
+
 -- The instruction has a row, and its fields are in the row's ranges: some word is this instruction.
 abbrev pub IsSpelled : Inst → Type 0
-IsSpelled (Lui rd imm) = IsRegister rd × IsNumber 32 imm × IsMultiple (2 ^ 12) imm
-IsSpelled (Auipc rd imm) = IsRegister rd × IsNumber 32 imm × IsMultiple (2 ^ 12) imm
-IsSpelled (Jal rd off) = IsRegister rd × IsNumber 21 off × IsMultiple 2 off
-IsSpelled (Jalr rd rs1 off) = IsRegister rd × IsRegister rs1 × IsNumber 12 off
-IsSpelled (Branch cond rs1 rs2 off) = IsRegister rs1 × IsRegister rs2 × IsNumber 13 off × IsMultiple 2 off
+IsSpelled (Lui rd imm) = FitsU rd imm
+IsSpelled (Auipc rd imm) = FitsU rd imm
+IsSpelled (Jal rd off) = FitsJ rd off
+IsSpelled (Jalr rd rs1 off) = FitsI rd rs1 off
+IsSpelled (Branch cond rs1 rs2 off) = FitsB rs1 rs2 off
 IsSpelled (Load width signed rd rs1 off) = IsRegister rd × IsRegister rs1 × IsNumber 12 off × (load_code width signed ≢ None)
 IsSpelled (Store width rs1 rs2 off) = IsRegister rs1 × IsRegister rs2 × IsNumber 12 off × (store_code width ≢ None)
 IsSpelled (AluImm op rd rs1 imm) = IsRegister rd × IsRegister rs1 × IsImm (imm_codes op) imm
-IsSpelled (Alu op rd rs1 rs2) = IsRegister rd × IsRegister rs1 × IsRegister rs2
-IsSpelled (Amo op wide aq rl rd rs1 rs2) = IsRegister rd × IsRegister rs1 × IsRegister rs2
+IsSpelled (Alu op rd rs1 rs2) = FitsR rd rs1 rs2
+IsSpelled (Amo op wide aq rl rd rs1 rs2) = FitsR rd rs1 rs2
 IsSpelled (Lr wide aq rl rd rs1) = IsRegister rd × IsRegister rs1
-IsSpelled (Sc wide aq rl rd rs1 rs2) = IsRegister rd × IsRegister rs1 × IsRegister rs2
+IsSpelled (Sc wide aq rl rd rs1 rs2) = FitsR rd rs1 rs2
 IsSpelled (Fence raw) = (raw < 2 ^ 32) × (opcode raw ≡ 0x0F) × (funct3 raw ≡ 0)
 IsSpelled (FenceI raw) = (raw < 2 ^ 32) × (opcode raw ≡ 0x0F) × (funct3 raw ≡ 1)
 IsSpelled Ecall = Unit {0}
@@ -80,11 +108,19 @@ word_u op rd n = n / 2 ^ 12 * 2 ^ 12 + rd * 2 ^ 7 + op
 abbrev pub word_j : ℕ → ℕ → ℕ → ℕ
 word_j op rd n = n / 2 ^ 20 * 2 ^ 31 + n / 2 % 2 ^ 10 * 2 ^ 21 + n / 2 ^ 11 % 2 * 2 ^ 20 + n / 2 ^ 12 % 2 ^ 8 * 2 ^ 12 + rd * 2 ^ 7 + op
 
+-- the word of a shift of 64 bits: its amount stands below the six bits of funct6
+abbrev pub shift_64 : ℕ → ℕ → ℕ → ℕ → ℕ → ℤ → ℕ
+shift_64 op f3 f6 rd rs1 imm = word_i op f3 rd rs1 (f6 * 2 ^ 6 + unsigned_abs imm)
+
+-- the word of a shift of 32 bits: its amount stands below the seven bits of funct7
+abbrev pub shift_32 : ℕ → ℕ → ℕ → ℕ → ℕ → ℤ → ℕ
+shift_32 op f3 f7 rd rs1 imm = word_i op f3 rd rs1 (f7 * 2 ^ 5 + unsigned_abs imm)
+
 -- the word of an operation on a register and an immediate, by its codes
 abbrev pub word_imm : Option ImmCodes → ℕ → ℕ → ℤ → ℕ
 word_imm (Some (Number op f3)) rd rs1 imm = word_i op f3 rd rs1 (low_bits 12 imm)
-word_imm (Some (Shift64 op f3 f6)) rd rs1 imm = word_i op f3 rd rs1 (f6 * 2 ^ 6 + unsigned_abs imm)
-word_imm (Some (Shift32 op f3 f7)) rd rs1 imm = word_i op f3 rd rs1 (f7 * 2 ^ 5 + unsigned_abs imm)
+word_imm (Some (Shift64 op f3 f6)) rd rs1 imm = shift_64 op f3 f6 rd rs1 imm
+word_imm (Some (Shift32 op f3 f7)) rd rs1 imm = shift_32 op f3 f7 rd rs1 imm
 word_imm None rd rs1 imm = 0
 
 -- funct7 of an atomic instruction

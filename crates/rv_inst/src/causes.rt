@@ -11,11 +11,12 @@ pub const ILLEGAL_INSTRUCTION: u8 = 2;
 /// An `ebreak`; the value is its pc.
 pub const BREAKPOINT: u8 = 3;
 
-/// A load or a load-reserved at an address that is no multiple of its width; the value is the address.
+/// A load or a load-reserved at an address that is no multiple of its width; the value is the
+/// address.
 pub const LOAD_ADDRESS_MISALIGNED: u8 = 4;
 
-/// A store, a store-conditional or an atomic memory operation at an address that is no multiple of its
-/// width; the value is the address.
+/// A store, a store-conditional or an atomic memory operation at an address that is no multiple of
+/// its width; the value is the address.
 pub const STORE_ADDRESS_MISALIGNED: u8 = 6;
 
 /// A pc in a page that is no text; the value is the pc.
@@ -24,6 +25,6 @@ pub const INSTRUCTION_PAGE_FAULT: u8 = 12;
 /// A load or a load-reserved at a page that may not be read; the value is the address.
 pub const LOAD_PAGE_FAULT: u8 = 13;
 
-/// A store, a store-conditional or an atomic memory operation at a page that may not be written; the value
-/// is the address.
+/// A store, a store-conditional or an atomic memory operation at a page that may not be written;
+/// the value is the address.
 pub const STORE_PAGE_FAULT: u8 = 15;

@@ -3,9 +3,9 @@ use rv_alu::{AluOp, AmoOp, Cond};
 
 /// An instruction of RV64IMA and Zifencei.
 ///
-/// Registers are 0 to 31. `rd` is written, `rs1` and `rs2` are read. Widths count bytes. Immediates and
-/// offsets are the sign-extended numbers. `wide` is true of a 64-bit operation on memory; `aq` and `rl`
-/// are the bits that order it before what follows and after what went before.
+/// Registers are 0 to 31. `rd` is written, `rs1` and `rs2` are read. Widths count bytes. Immediates
+/// and offsets are the sign-extended numbers. `wide` is true of a 64-bit operation on memory; `aq`
+/// and `rl` are the bits that order it before what follows and after what went before.
 ///
 /// RISC-V unprivileged ISA, "RV32/64G Instruction Set Listings".
 #[derive(Clone, Copy, Debug, PartialEq, Eq)]
@@ -48,8 +48,8 @@ pub enum Inst {
         rs2: u8,
         off: i64,
     },
-    /// A load, as `lbu`, of 1, 2, 4 or 8 bytes, which are sign-extended where `signed` is true, as it
-    /// is of `ld`.
+    /// A load, as `lbu`, of 1, 2, 4 or 8 bytes, which are sign-extended where `signed` is true, as
+    /// it is of `ld`.
     ///
     /// RISC-V unprivileged ISA, "Load and Store Instructions".
     Load {

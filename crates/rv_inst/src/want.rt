@@ -1,8 +1,8 @@
 //! What an instruction wants.
 use rv_alu::AmoOp;
 
-/// What an instruction wants beyond the pc and the registers of its hart. An access has its address,
-/// which is a multiple of its width of 1, 2, 4 or 8 bytes; `value` is the whole register.
+/// What an instruction wants beyond the pc and the registers of its hart. An access has its
+/// address, which is a multiple of its width of 1, 2, 4 or 8 bytes; `value` is the whole register.
 #[derive(Clone, Copy, Debug, PartialEq, Eq)]
 pub enum Want {
     /// Nothing.

@@ -16,12 +16,12 @@ is_answer : (inst : Inst) (answer : Option ℕ) (word : ℕ) → SomeIff answer 
 is_answer inst None word is row = absurd (is row.0)
 is_answer inst (Some given) word is row = ap Some (is.1 ∙ sym row.1)
 
-pub returns-clause-inverse : goal.returns-clause-inverse
-returns-clause-inverse c = λ word small.
+pub returns-clause-back : goal.returns-clause-back
+returns-clause-back c = λ word small.
     let inst = c.args.inst in
     let law = c.words_are_rows.ensures in
     let row = law.row word inst in
     let answer = c.by_format.result in (
-      λ e. row.1 (is_row inst answer word c.by_format.ensures (λ spelled. (law.spells inst spelled).1) e),
-      λ e. is_answer inst answer word c.by_format.ensures (law.spelled word inst small (row.0 e), law.word word inst small (row.0 e)),
+      λ e. row.1 (is_row inst answer word c.by_format.ensures (λ spelled. law.spells inst spelled) e),
+      λ e. is_answer inst answer word c.by_format.ensures (law.spelled word inst small (row.0 e), law.one word inst small (row.0 e)),
     )

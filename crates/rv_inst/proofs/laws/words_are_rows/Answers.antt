@@ -9,8 +9,11 @@ returns-clause-row c = λ word inst. (row_of_inst word inst, inst_of_row word in
 pub returns-clause-spelled : goal.returns-clause-spelled
 returns-clause-spelled c = λ word inst w h. fields_fit word inst w h
 
-pub returns-clause-word : goal.returns-clause-word
-returns-clause-word c = λ word inst w h. row_is_word word inst w h
+pub returns-clause-one : goal.returns-clause-one
+returns-clause-one c = λ word inst w h. row_is_word word inst w h
 
 pub returns-clause-spells : goal.returns-clause-spells
-returns-clause-spells c = λ inst h. word_is_row inst h
+returns-clause-spells c = λ inst h. (word_is_row inst h).1
+
+pub returns-clause-fits : goal.returns-clause-fits
+returns-clause-fits c = λ inst h. (word_is_row inst h).0
