@@ -32,7 +32,8 @@ pub struct WantedSegment<'a> {
     pub p_align: u64,
 }
 
-/// A symbol. Where its section is that of a segment, `st_shndx` is the segment's number and one more.
+/// A symbol. Where its section is that of a segment, `st_shndx` is the segment's number and one
+/// more.
 #[derive(Clone, Copy, Debug)]
 pub struct WantedSymbol<'a> {
     pub name: &'a [u8],
@@ -102,7 +103,8 @@ impl ElfBuilder {
         }
     }
 
-    /// A plain image: one segment of text, with these words at 0x10000 and at place 4096 of the file.
+    /// A plain image: one segment of text, with these words at 0x10000 and at place 4096 of the
+    /// file.
     pub fn plain(alloc: Global, words: &[u32]) -> Result<ElfBuilder, BuilderFault> {
         let mut builder = ElfBuilder::new(alloc);
         builder.text(PLAIN_TEXT, words)?;

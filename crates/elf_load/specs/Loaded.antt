@@ -35,7 +35,8 @@ words_in n bytes = map (λ k. little_number 8 (drop (8 * k) bytes)) (range_with_
 
 -- the words of the page with this number
 abbrev pub page_words : List ℕ → List Segment → ℕ → List ℕ
-page_words file loads number = words_in PAGE_WORDS (bytes_at file loads (PAGE_SIZE * number) PAGE_SIZE)
+page_words file loads number =
+    words_in PAGE_WORDS (bytes_at file loads (PAGE_SIZE * number) PAGE_SIZE)
 
 -- the page of text with this number
 abbrev pub loaded_text : List ℕ → List Segment → ℕ → PageValue

@@ -36,7 +36,8 @@ high_address before s =
 -- each page counted once for each segment that meets it
 abbrev pub too_large : List Segment → Segment → Option LoadRule
 too_large before s =
-    then_some (is_load s && nat_lt MOST_IMAGE_PAGES (sum_by pages_of (loads_of before) + pages_of s))
+    then_some
+    (is_load s && nat_lt MOST_IMAGE_PAGES (sum_by pages_of (loads_of before) + pages_of s))
     TooLarge
 
 -- what a header breaks that can't be loaded with one before it

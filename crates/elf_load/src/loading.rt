@@ -51,7 +51,8 @@ fn page_behind(numbers: &[u32]) -> u32
 // What is loaded of these segments.
 fn image(alloc: Global, elf: &Elf, loads: &[Segment]) -> Result<Image, Memory>
     requires placed { ArePlaced (length elf.now.bytes) (loads_of elf.now.segments) loads.now }
-    requires entry { ((elf.now.entry % 4 == 0) && is_text loads.now (page_of elf.now.entry)) ≡ true }
+    requires entry { ((elf.now.entry % 4 == 0)
+        && is_text loads.now (page_of elf.now.entry)) ≡ true }
     ensures { IfOk result (λ image. image ≡ image_of elf.now) }
 {
     let numbers = page_numbers(alloc, loads)?;
@@ -70,7 +71,8 @@ fn image(alloc: Global, elf: &Elf, loads: &[Segment]) -> Result<Image, Memory>
 /// part gives are 0. Pages stand by rising number, names in the order of the symbol table.
 ///
 /// The time is that of the file and of the pages that it maps, times a logarithm; the memory is
-/// that of the image and of the headers. A file whose symbols share a long name has it copied for each.
+/// that of the image and of the headers. A file whose symbols share a long name has it copied for
+/// each.
 #[tactic(auto, unfolding(crate::specs::Rules::fault_of))]
 pub fn load(alloc: Global, elf: &Elf) -> Result<Image, LoadFault>
     // The file is loaded exactly where it breaks no rule, and there is memory.

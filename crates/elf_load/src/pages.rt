@@ -79,9 +79,11 @@ pub fn read_pages(
     requires each { AllByRecursion (λ s. is_placeable (length elf.now.bytes) s ≡ true) loads.now }
     requires numbers { numbers.now ≡ pages_below DATA_END_PAGE (is_met loads.now) }
     ensures text { IfOk result (λ contents. contents.text.items
-        ≡ map (loaded_text elf.now.bytes loads.now) (pages_below DATA_END_PAGE (is_text loads.now))) }
+        ≡ map (loaded_text elf.now.bytes loads.now)
+        (pages_below DATA_END_PAGE (is_text loads.now))) }
     ensures pages { IfOk result (λ contents. contents.pages.items
-        ≡ map (loaded_data elf.now.bytes loads.now) (pages_below DATA_END_PAGE (is_data loads.now))) }
+        ≡ map (loaded_data elf.now.bytes loads.now)
+        (pages_below DATA_END_PAGE (is_data loads.now))) }
 {
     let mut contents = Contents {
         text: Vec::new(alloc),

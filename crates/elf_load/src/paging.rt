@@ -30,7 +30,8 @@ pub fn page_numbers(alloc: Global, loads: &[Segment]) -> Result<Vec<u32>, Memory
     requires rising { AreInOrder loads.now }
     requires loads { AllByRecursion (λ s. is_load s ≡ true) loads.now }
     requires low { AllByRecursion (λ s. page_after s ≤ DATA_END_PAGE) loads.now }
-    ensures { IfOk result (λ numbers. numbers.items ≡ pages_below DATA_END_PAGE (is_met loads.now)) }
+    ensures { IfOk result
+        (λ numbers. numbers.items ≡ pages_below DATA_END_PAGE (is_met loads.now)) }
 {
     let mut numbers = Vec::new(alloc);
     let mut next = 0;

@@ -1,6 +1,6 @@
 -- The rules of a file, in the order in which they are looked at, each with the place that is told
--- where it is broken (System V ABI, "ELF Header", "Program Header", "Section Header", "Symbol Table"
--- and "String Table"; RISC-V ELF psABI, "File Header").
+-- where it is broken (System V ABI, "ELF Header", "Program Header", "Section Header", "Symbol
+-- Table" and "String Table"; RISC-V ELF psABI, "File Header").
 use Rattle.std.specs.Prelude.{ℕ, ◌+◌, ◌*◌, ◌%◌, ◌^◌, ◌==◌, ◌&&◌, ◌||◌, not, Bool, false, if◌then◌else◌, List, [], ◌∷◌, ◌++◌, Option, Some, None, length, nat_lt, nat_le, nat_eq, bit_and, slice_index, slice_get, position}
 use Rattle.std.specs.List.{starts_with, enumerate_from}
 use Rattle.std.specs.Option.{option_map, option_map_or}
@@ -53,7 +53,10 @@ is_strings sections i = option_map_or (λ s. s.sh_type == SHT_STRTAB) (slice_get
 
 -- a section has whole symbols, and their names are in a string table
 abbrev pub has_symbols : List Section → Section → Bool
-has_symbols sections s = s.sh_entsize == SYMENTSIZE && s.sh_size % SYMENTSIZE == 0 && is_strings sections s.sh_link
+has_symbols sections s =
+    s.sh_entsize == SYMENTSIZE
+    && s.sh_size % SYMENTSIZE == 0
+    && is_strings sections s.sh_link
 
 -- section i is no symbol table, or it is the first one and has symbols
 abbrev pub is_only_symtab : List Section → ℕ × Section → Bool
@@ -85,7 +88,8 @@ abbrev pub target_rules : Kind → Header → List (Option ElfFault)
 target_rules kind h =
     unless (h.e_type == type_of kind) Kind_ E_TYPE_PLACE
     ∷ unless (h.e_machine == EM_RISCV) Machine E_MACHINE_PLACE
-    ∷ unless (bit_and h.e_flags EF_RISCV_RVC == 0 && bit_and h.e_flags EF_RISCV_RVE == 0) Flags E_FLAGS_PLACE
+    ∷ unless (bit_and h.e_flags EF_RISCV_RVC == 0 && bit_and h.e_flags EF_RISCV_RVE == 0) Flags
+    E_FLAGS_PLACE
     ∷ []
 
 -- the rules about the tables of headers, in a file of so many bytes
@@ -114,7 +118,8 @@ segment_rules size h segments = unless_each (fits_file size) Range h.e_phoff PHE
 unfoldable pub section_rules : ℕ → Header → List Section → List (Option ElfFault)
 section_rules size h sections =
     unless_each (lies_in_file size) Range h.e_shoff SHENTSIZE sections
-    ∷ unless (h.e_shnum == 0 || h.e_shstrndx == 0 || is_strings sections h.e_shstrndx) Strings E_SHSTRNDX_PLACE
+    ∷ unless (h.e_shnum == 0 || h.e_shstrndx == 0 || is_strings sections h.e_shstrndx) Strings
+    E_SHSTRNDX_PLACE
     ∷ unless_each (is_only_symtab sections) Table h.e_shoff SHENTSIZE (enumerate_from 0 sections)
     ∷ []
 

@@ -214,7 +214,8 @@ fn first_wrong_symtab(sections: &[Section]) -> Option<usize>
 // The first rule about segments that is broken.
 #[tactic(auto, unfolding(crate::specs::Rules::segment_rules))]
 pub fn check_segments(file: u64, header: &Header, segments: &[Segment]) -> Result<(), ElfFault>
-    requires { 0 < length segments.now → header.now.e_phoff + PHENTSIZE * length segments.now < 2 ^ 64 }
+    requires { 0 < length segments.now
+        → header.now.e_phoff + PHENTSIZE * length segments.now < 2 ^ 64 }
     ensures { result_err result ≡ first_of (segment_rules file header.now segments.now) }
 {
     require_none(

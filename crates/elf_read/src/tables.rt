@@ -53,7 +53,8 @@ pub fn read_segments(
     count: usize,
 ) -> Result<Vec<Segment>, AllocError>
     requires { 0 < count → at + PHENTSIZE * count ≤ length bytes.now }
-    ensures { IfOk result (λ segments. segments.items ≡ table (segment_at bytes.now) at PHENTSIZE count) }
+    ensures { IfOk result
+        (λ segments. segments.items ≡ table (segment_at bytes.now) at PHENTSIZE count) }
 {
     (0..count)
         .map(|i| segment_at(bytes, at + PHENTSIZE * i))
@@ -68,7 +69,8 @@ pub fn read_sections(
     count: usize,
 ) -> Result<Vec<Section>, AllocError>
     requires { at + SHENTSIZE * count ≤ length bytes.now }
-    ensures { IfOk result (λ sections. sections.items ≡ table (section_at bytes.now) at SHENTSIZE count) }
+    ensures { IfOk result
+        (λ sections. sections.items ≡ table (section_at bytes.now) at SHENTSIZE count) }
 {
     (0..count)
         .map(|i| section_at(bytes, at + SHENTSIZE * i))

@@ -1,5 +1,5 @@
-//! Tests of what files are read and loaded as, and of what the programs take from outside and give to
-//! it: over public calls alone.
+//! Tests of what files are read and loaded as, and of what the programs take from outside and give
+//! to it: over public calls alone.
 #![tactic(auto)]
 
 #[cfg(test)]

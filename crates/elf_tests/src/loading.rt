@@ -48,9 +48,9 @@ fn symbol<'a>(
 }
 
 // A file that breaks no rule: one segment of text at 0x10000, whose bytes stand at 232; one of data
-// from 0x12004 to 0x13014, of which eight bytes are in the file, at 244; a note; and six symbols: none,
-// a, b of no section, c of the common ones, d with a number, and one without a name. The program
-// headers stand at 64, 120 and 176.
+// from 0x12004 to 0x13014, of which eight bytes are in the file, at 244; a note; and six symbols:
+// none, a, b of no section, c of the common ones, d with a number, and one without a name. The
+// program headers stand at 64, 120 and 176.
 fn good(alloc: Global) -> Result<ElfBuilder, Fail> {
     let mut builder = ElfBuilder::new(alloc);
     builder.segment(&segment(1, 5, 0x1_0000, &TEXT, 12))?;
