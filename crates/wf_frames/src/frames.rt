@@ -11,7 +11,7 @@ use crate::{Frame, FrameState, TakeFault};
 use std::alloc::Global;
 use std::collections::VecDeque;
 use std::marker::Model;
-use wf_outside::{Limits, Memory};
+use wf_outside::{Limits, MOST_FRAMES, Memory};
 
 /// The frames of a machine. What contracts see is for each frame whether it is free, in use or
 /// worn, and its incarnation.
@@ -56,6 +56,22 @@ impl Frames {
             last_birth: limits.last_birth,
             alloc,
         })
+    }
+
+    /// How many frames there are.
+    pub fn count(&self) -> u32
+        ensures value { result ≡ length self.now.frames }
+        ensures most { result ≤ MOST_FRAMES }
+    {
+        self.frames.len() as u32
+    }
+
+    /// Whether a frame is free, in use or worn.
+    pub fn state(&self, frame: u32) -> FrameState
+        requires { frame < length self.now.frames }
+        ensures { HasState self.now.frames frame result }
+    {
+        self.frames[frame as usize].state
     }
 
     /// How many frames are free.

@@ -5,4 +5,5 @@ pub mod Files
 pub mod Puts
 pub mod MemFiles
 pub mod StatusText
+pub mod Refusals
 pub mod Taking
