@@ -4,4 +4,5 @@ pub mod Images
 pub mod Files
 pub mod Puts
 pub mod MemFiles
+pub mod Refusals
 pub mod Taking

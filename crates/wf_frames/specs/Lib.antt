@@ -1,0 +1,5 @@
+pub mod Layout
+pub mod FrameWords
+pub mod Frames
+pub mod Free
+pub mod Faults
