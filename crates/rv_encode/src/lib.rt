@@ -10,4 +10,4 @@ mod texts;
 
 pub use encoding::encode;
 pub use jumping::jump;
-pub use texts::dis;
+pub use texts::{alu_name, amo_name, branch_name, dis, imm_name};

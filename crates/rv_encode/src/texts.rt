@@ -152,7 +152,10 @@ fn upper(imm: i64) -> u64
     imm.cast_unsigned() % (1 << 32) / (1 << 12)
 }
 
-fn branch_name(cond: Cond) -> &'static str
+/// The mnemonic of a branch.
+///
+/// RISC-V unprivileged ISA, "RV32/64G Instruction Set Listings".
+pub fn branch_name(cond: Cond) -> &'static str
     ensures { result.now ≡ texts.branch_name cond }
 {
     match cond {
@@ -177,7 +180,10 @@ fn width_letter(width: u8) -> &'static str
     }
 }
 
-fn alu_name(op: AluOp) -> &'static str
+/// The mnemonic of an operation on two registers.
+///
+/// RISC-V unprivileged ISA, "RV32/64G Instruction Set Listings".
+pub fn alu_name(op: AluOp) -> &'static str
     ensures { result.now ≡ texts.alu_name op }
 {
     match op {
@@ -212,7 +218,10 @@ fn alu_name(op: AluOp) -> &'static str
     }
 }
 
-fn imm_name(op: AluOp) -> &'static str
+/// The mnemonic of an operation on a register and an immediate; empty where there is none.
+///
+/// RISC-V unprivileged ISA, "RV32/64G Instruction Set Listings".
+pub fn imm_name(op: AluOp) -> &'static str
     ensures { result.now ≡ texts.imm_name op }
 {
     match op {
@@ -233,7 +242,10 @@ fn imm_name(op: AluOp) -> &'static str
     }
 }
 
-fn amo_name(op: AmoOp) -> &'static str
+/// The mnemonic of an atomic memory operation, without its width and order.
+///
+/// RISC-V unprivileged ISA, "RV32/64G Instruction Set Listings".
+pub fn amo_name(op: AmoOp) -> &'static str
     ensures { result.now ≡ texts.amo_name op }
 {
     match op {

@@ -1,0 +1,3 @@
+mod LengthLemmas
+mod PartLemmas
+mod WrittenLemmas

@@ -1,0 +1,6 @@
+pub mod Layout
+pub mod Modules
+pub mod Parts
+pub mod Places
+pub mod Records
+pub mod Written

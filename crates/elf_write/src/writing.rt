@@ -1,0 +1,132 @@
+//! The file that holds a module.
+ghost use Rattle.std.specs.Prelude.{◌≡◌, ◌<◌, ◌≤◌, ◌+◌, ◌*◌, ◌^◌, ◌++◌, OnOk, IfOk, length};
+ghost use Rattle.elf_write.specs.Layout.{file_length, plan_of, HasRoom};
+ghost use Rattle.elf_write.specs.Parts.{strings};
+ghost use Rattle.elf_write.specs.Written.{front_bytes, if_segments, table_bytes, target_bytes, with_contents, with_tables, written, written_by, IsWritable};
+
+use crate::Module;
+use crate::constants::{EM_RISCV, ET_EXEC, EV_CURRENT};
+use crate::layout::{Layout, Plan, bases_for, layout_for, sizes_of};
+use crate::numbers::{place, put_halves, put_words, put_xwords};
+use crate::parts::{locals, strings, symbol_table};
+use crate::records::{put_segments, section_headers, sections, segments};
+use elf_read::Segment;
+use std::alloc::Global;
+use wf_outside::Memory;
+
+const IDENT: [u8; 16] = [0x7F, 0x45, 0x4C, 0x46, 2, 1, 1, 0, 0, 0, 0, 0, 0, 0, 0, 0];
+
+const SECTION_NAMES: [u8; 52] = *b"\0.text\0.rodata\0.data\0.bss\0.symtab\0.strtab\0.shstrtab\0";
+
+// A field of the header that is 0 in a file without segments.
+fn if_segments(count: u16, number: u16) -> u16
+    ensures { result ≡ if_segments count number }
+{
+    if count == 0 { 0 } else { number }
+}
+
+// Adds the first bytes of the header, to the address of the first instruction.
+fn put_target(out: &mut Vec<u8>, entry: u64) -> Result<(), Memory>
+    ensures { OnOk result (out.new.items ≡ out.old.items ++ target_bytes entry) }
+{
+    out.extend_from_slice(&IDENT)?;
+    put_halves(out, &[ET_EXEC, EM_RISCV])?;
+    put_words(out, &[EV_CURRENT])?;
+    put_xwords(out, &[entry])
+}
+
+// Adds the rest of the header: where the tables of headers stand, and how many there are.
+fn put_tables(out: &mut Vec<u8>, segments: u16, headers: u64) -> Result<(), Memory>
+    ensures { OnOk result (out.new.items ≡ out.old.items ++ table_bytes segments headers) }
+{
+    let (place, size) = (if_segments(segments, 64), if_segments(segments, 56));
+    put_xwords(out, &[u64::from(place), headers])?;
+    put_words(out, &[0])?;
+    put_halves(out, &[64, size, segments, 64, 8, 7])
+}
+
+// The header and the headers of the segments.
+#[tactic(auto, unfolding(crate::specs::Written::front_bytes))]
+fn front(alloc: Global, entry: u64, segments: &[Segment], headers: u64) -> Result<Vec<u8>, Memory>
+    requires { length segments.now ≤ 3 }
+    ensures { IfOk result (λ bytes. bytes.items ≡ front_bytes entry segments.now headers) }
+{
+    let mut out = Vec::new(alloc);
+    put_target(&mut out, entry)?;
+    put_tables(&mut out, segments.len() as u16, headers)?;
+    put_segments(&mut out, segments)?;
+    Ok(out)
+}
+
+// Adds the contents of the sections.
+fn place_contents(out: &mut Vec<u8>, module: &Module, layout: &Layout) -> Result<(), Memory>
+    requires { (layout.now.text < 2 ^ 64) × (layout.now.rodata < 2 ^ 64) × (layout.now.rwdata < 2 ^ 64) }
+    ensures { OnOk result (out.new.items ≡ with_contents «module».now layout.now out.old.items) }
+{
+    place(out, layout.text as usize, &module.text)?;
+    place(out, layout.rodata as usize, &module.rodata)?;
+    place(out, layout.rwdata as usize, &module.rwdata)
+}
+
+// Adds the symbols, their names, the names of the sections and the headers of the sections.
+fn place_tables(
+    out: &mut Vec<u8>,
+    layout: &Layout,
+    symbols: &[u8],
+    names: &[u8],
+    headers: &[u8],
+) -> Result<(), Memory>
+    requires { (layout.now.symtab < 2 ^ 64) × (layout.now.strtab < 2 ^ 64) × (layout.now.shstrtab < 2 ^ 64) × (layout.now.headers < 2 ^ 64) }
+    ensures { OnOk result (out.new.items ≡ with_tables layout.now symbols.now names.now headers.now out.old.items) }
+{
+    place(out, layout.symtab as usize, symbols)?;
+    place(out, layout.strtab as usize, names)?;
+    place(out, layout.shstrtab as usize, &SECTION_NAMES)?;
+    place(out, layout.headers as usize, headers)
+}
+
+// The plan of a module whose names take so many bytes.
+fn plan(module: &Module, names: u64) -> Plan
+    requires names { names ≡ length (strings «module».now.symbols) }
+    requires short { (file_length «module».now < 2 ^ 32) × («module».now.bss ≤ 2 ^ 32) }
+    ensures value { result ≡ plan_of «module».now }
+    ensures room { HasRoom (length «module».now.symbols) names result }
+{
+    let sizes = sizes_of(module, names);
+    let layout = layout_for(&sizes);
+    let bases = bases_for(sizes.text, sizes.rodata, sizes.rwdata);
+    Plan {
+        sizes,
+        layout,
+        bases,
+    }
+}
+
+// The file that holds a module with a plan and these names.
+fn write_by(alloc: Global, plan: &Plan, module: &Module, names: &[u8]) -> Result<Vec<u8>, Memory>
+    requires names { names.now ≡ strings «module».now.symbols }
+    requires room { HasRoom (length «module».now.symbols) (length names.now) plan.now }
+    ensures { IfOk result (λ bytes. bytes.items ≡ written_by plan.now «module».now) }
+{
+    let layout = &plan.layout;
+    let segments = segments(alloc, plan)?;
+    let sections = sections(plan, locals(&module.symbols) as u32);
+    let headers = section_headers(alloc, &sections)?;
+    let symbols = symbol_table(alloc, &module.symbols)?;
+    let mut out = front(alloc, module.entry, &segments, layout.headers as u64)?;
+    place_contents(&mut out, module, layout)?;
+    place_tables(&mut out, layout, &symbols, names, &headers)?;
+    Ok(out)
+}
+
+/// The file that holds a module.
+///
+/// System V ABI, "ELF Header" to "Symbol Table"; RISC-V ELF psABI, "File Header".
+pub fn write(alloc: Global, module: &Module) -> Result<Vec<u8>, Memory>
+    requires { IsWritable «module».now }
+    ensures { IfOk result (λ bytes. bytes.items ≡ written «module».now) }
+{
+    let names = strings(alloc, &module.symbols)?;
+    let plan = plan(module, names.len() as u64);
+    write_by(alloc, &plan, module, &names)
+}
