@@ -7,11 +7,11 @@ use wf_outside::{Memory, Text};
 use wf_text::push_decimal;
 
 // The first three lines.
-fn push_sizes(out: &mut Vec<u8>, harts: u8, frames: u32) -> Result<(), Memory>
+fn push_sizes(out: &mut Vec<u8>, harts: u64, frames: u32) -> Result<(), Memory>
     ensures { OnOk result (out.new.items ≡ out.old.items ++ line version_text ++ line (harts_text harts) ++ line (frames_text frames)) }
 {
     out.extend_from_slice(b"wfpatch run 1\n")?;
-    push_number_line(out, b"harts ", u64::from(harts))?;
+    push_number_line(out, b"harts ", harts)?;
     push_number_line(out, b"frames ", u64::from(frames))
 }
 
@@ -38,6 +38,20 @@ fn push_patches(out: &mut Vec<u8>, patches: &[Text]) -> Result<(), Memory>
     Ok(())
 }
 
+// The first lines of a report of so many harts.
+pub(crate) fn push_first_lines(
+    out: &mut Vec<u8>,
+    harts: u64,
+    frames: u32,
+    patches: &[Text],
+) -> Result<(), Memory>
+    ensures { OnOk result
+        (out.new.items ≡ out.old.items ++ joined (header_lines harts frames patches.now)) }
+{
+    push_sizes(out, harts, frames)?;
+    push_patches(out, patches)
+}
+
 /// Appends the first lines of a report: the sizes, and the names of the script's patches by their
 /// numbers.
 pub fn push_header(
@@ -46,10 +60,10 @@ pub fn push_header(
     frames: u32,
     patches: &[Text],
 ) -> Result<(), Memory>
-    ensures { OnOk result (out.new.items ≡ out.old.items ++ joined (header_lines harts frames patches.now)) }
+    ensures { OnOk result
+        (out.new.items ≡ out.old.items ++ joined (header_lines harts frames patches.now)) }
 {
-    push_sizes(out, harts, frames)?;
-    push_patches(out, patches)
+    push_first_lines(out, u64::from(harts), frames, patches)
 }
 
 /// Appends lines, each with its newline.

@@ -10,5 +10,4 @@ ghost use Rattle.wf_journal.specs.Laws.{IsEntry};
 pub fn entries_are_read_back()
     ensures again { (harts : ℕ) (entry : Entry) → IsEntry harts entry → entry_of harts (entry_bytes entry) ≡ Some entry }
     ensures apart { (harts : ℕ) (d e : Entry) → IsEntry harts d → IsEntry harts e → entry_bytes d ≡ entry_bytes e → d ≡ e }
-{
-}
+{}

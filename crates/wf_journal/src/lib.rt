@@ -9,6 +9,7 @@ mod headers;
 mod journal;
 mod laws;
 mod reading;
+mod reporting;
 mod words;
 
 pub use entries::{entry_text, push_entry};
@@ -17,3 +18,4 @@ pub use headers::{push_header, push_lines};
 pub use journal::{Journal, JournalFault};
 pub use laws::entries_are_read_back;
 pub use reading::read_journal;
+pub use reporting::report;

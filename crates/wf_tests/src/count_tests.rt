@@ -7,8 +7,8 @@ use crate::images::small_image;
 use std::alloc::Global;
 use std::test::Fail;
 use wf_flat::{Flat, boot};
+use wf_journal::report;
 use wf_outside::Limits;
-use wf_report::report;
 use wf_step::step;
 
 // Nine words, two in each: addi x5, x0, -1; ld x4, -8(x2); sd x5, -8(x2); ld x4, -8(x2); sb x0, -8(x2);

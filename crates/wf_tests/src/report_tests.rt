@@ -3,8 +3,8 @@ use crate::images::small_image;
 use std::alloc::Global;
 use std::test::Fail;
 use wf_flat::{Actor, Entry, Event, Flat, FlatPage, Gen, Life, Stage, WaitFor, boot};
+use wf_journal::report;
 use wf_outside::{Limits, Refusal};
-use wf_report::report;
 
 // The state of one hart at its start.
 fn booted(alloc: Global) -> Result<Flat, Fail> {

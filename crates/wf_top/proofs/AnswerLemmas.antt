@@ -15,7 +15,7 @@ use Rattle.wf_fetch.specs.Held.{IsTooLong, HoldsBytes, max_file}
 use Rattle.wf_fetch.specs.Loaded.{image_fault, loaded}
 use Rattle.wf_top.specs.PlainScript.{IsScript, IsScriptFault}
 use Rattle.wf_top.specs.Running.{frames_of, most_frames, start_of}
-use Rattle.wf_report.specs.Report.{report_bytes}
+use Rattle.wf_journal.specs.Reports.{report_bytes}
 use Rattle.wf_top.specs.Answers.{HoldsImage, HoldsBoth, HoldsRun, CallsFor}
 use Rattle.wf_top.specs.Laws.{AnswersAreOne, ReportsAreOne, RunsMeetNothing}
 use Rattle.wf_flat.proofs.ListLemmas.{some_and}

@@ -9,7 +9,7 @@ use Rattle.wf_flat.specs.Counts.{used_of}
 use Rattle.wf_flat.specs.Legal.{Moment, IsLegal, end_of, at_rest}
 use Rattle.wf_top.specs.declared.script.Command.{Command}
 use Rattle.wf_top.specs.Follows.{Follows}
-use Rattle.wf_report.specs.Report.{report_bytes}
+use Rattle.wf_journal.specs.Reports.{report_bytes}
 
 -- the sizes of the machine: 1,024 frames, and the whole range of both counts
 abbrev pub sizes : LimitsValue

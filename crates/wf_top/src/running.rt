@@ -17,8 +17,8 @@ use crate::words::names_of_run;
 use std::alloc::Global;
 use wf_fetch::fetch_image;
 use wf_flat::{BootFault, boot};
+use wf_journal::report;
 use wf_outside::{Image, Limits, MOST_BIRTHS, MOST_WRITES, Memory, Shelf, Sink, Text};
-use wf_report::report;
 use wf_status::{LimitKind, Status, Unbuilt};
 use wf_step::StepFault;
 
