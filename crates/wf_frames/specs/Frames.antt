@@ -11,7 +11,7 @@ pub record FramesValue : Type 0 where
   pub last_birth : ℕ
 
 -- the frames of a new machine: all are free, before their first use as data
-abbrev pub new_frames : ℕ → List Frame
+unfoldable pub new_frames : ℕ → List Frame
 new_frames count = replicate count (record { state = Free; incarnation = 0 })
 
 -- whether a frame is free

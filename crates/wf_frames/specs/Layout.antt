@@ -1,5 +1,5 @@
 -- Where the words of a machine stand: word 0, then one word for each frame, then the words of each frame.
-use Rattle.std.specs.Prelude.{◌≡◌, ◌+◌, ◌*◌, ◌≤◌, ℕ, List, length}
+use Rattle.std.specs.Prelude.{◌≡◌, ◌+◌, ◌*◌, ◌≤◌, ℕ, List, length, replicate}
 use Rattle.wf_outside.specs.declared.sizes.TheConstants.{PAGE_WORDS, MOST_FRAMES}
 
 -- how many words a machine of so many frames has
@@ -18,6 +18,10 @@ word_place frames frame i = 1 + frames + PAGE_WORDS * frame + i
 pub record WordsValue : Type 0 where
   pub frames : ℕ
   pub items : List ℕ
+
+-- the words of a new machine of so many frames, all 0
+unfoldable pub new_words : ℕ → List ℕ
+new_words frames = replicate (word_count frames) 0
 
 -- what the words of a machine keep: all are there, and there are not too many
 pub record AreWords (frames : ℕ) (items : List ℕ) : Type 0 where

@@ -30,7 +30,7 @@ impl Words {
     /// The words of a new machine, all 0. They are made in one go: 65,536 frames take about 270 MB.
     pub fn new(alloc: Global, limits: Limits) -> Result<Words, Memory>
         ensures frames { IfOk result (λ w. w.frames ≡ limits.frames) }
-        ensures zeros { IfOk result (λ w. w.items ≡ replicate (layout.word_count limits.frames) 0) }
+        ensures zeros { IfOk result (λ w. w.items ≡ layout.new_words limits.frames) }
     {
         let limits = &limits;
         let frames = limits.frames;

@@ -2,7 +2,7 @@ use Rattle.std.proofs.Common.{rules, ◌≡◌, ◌≤◌, ◌∙◌, ap, sym, s
 use Rattle.std.specs.List.{AllByRecursion}
 use Rattle.wf_frames.specs.declared.state.Frame.{Frame}
 use Rattle.wf_frames.specs.declared.state.FrameState.TheVariants.{Free}
-use Rattle.wf_frames.specs.Frames.{free_numbers}
+use Rattle.wf_frames.specs.Frames.{free_numbers, new_frames}
 use Rattle.wf_frames.proofs.FrameLemmas.{all_free, all_replicate}
 use Rattle.wf_frames.proofs.frames.Frames.new.Goals as goal
 
@@ -18,3 +18,7 @@ invariant_of-result c =
       few = omega (arith, c.limits.invariant.many_frames, c.in_ok-frames.ensures.len);
       births = subst (λ xs. AllByRecursion (λ f. f.incarnation ≤ c.limits.inside.last_birth) xs) (sym fs) (all_replicate _ first c.limits.inside.frames (omega arith));
     }
+
+pub returns-clause-frames : goal.returns-clause-frames
+unfolding new_frames
+returns-clause-frames c = search rules

@@ -1,0 +1,1 @@
+//! Walks through a table, at the edges of each level.
