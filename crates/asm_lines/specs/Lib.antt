@@ -1,0 +1,11 @@
+pub mod Atomics
+pub mod Bytes
+pub mod Choice
+pub mod Directives
+pub mod Instructions
+pub mod Lines
+pub mod Numbers
+pub mod Operands
+pub mod Registers
+pub mod Shorts
+pub mod Statements
