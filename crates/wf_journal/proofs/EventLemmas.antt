@@ -1,5 +1,5 @@
 -- The entry that is written is read back.
-use Rattle.std.proofs.Common.{◌≡◌, ◌<◌, ◌-◌, ◌^◌, ◌++◌, ◌∷◌, [], ℕ, List, Bool, true, false, cond, Option, Some, None, refl, sym, ap, ◌∙◌, arith, append_assoc, append-nil}
+use Rattle.std.proofs.Common.{◌≡◌, ◌<◌, ◌-◌, ◌^◌, ◌++◌, ◌∷◌, ℕ, List, Bool, true, false, cond, Option, Some, None, refl, sym, ap, ◌∙◌, arith}
 use Rattle.std.specs.Prelude.{option_map, option_and_then, codes, nat_lt}
 use Rattle.std.specs.Fmt.{decimal}
 use Rattle.std.proofs.lemmas.Bool.Decides.{nat_tests}
@@ -17,8 +17,8 @@ use Rattle.wf_outside.specs.declared.refusal.Refusal.TheVariants.{Argument, Over
 use Rattle.wf_journal.specs.Entries.{spaced, actor_text, right_text, patch_text, wait_text, refusal_text, event_text, entry_bytes}
 use Rattle.wf_journal.specs.Fields.{word_at, field, one, two, three, four, hex64, hex32, decimal64, decimal32, decimal8, wide_hex, right_of, patch_of, actor_of}
 use Rattle.wf_journal.specs.Events.{try_of, wait_of, step_of, gone_with, gone_of, change_of, views_of, reason_of, event_of, or_else, there, entry_of}
-use Rattle.wf_journal.specs.Laws.{IsActor, IsThere, IsWaited, IsReason, IsEvent, IsEntry}
-use Rattle.wf_journal.proofs.FieldLemmas.{IsEnd, before_end, field_again, field_last, one_again, two_again, three_again, four_again, hex64_read, hex32_read, decimal64_read, decimal32_read, decimal8_read, wide_read, right_read, zero_patch_read, no_patch_read, actor_read}
+use Rattle.wf_journal.specs.Laws.{IsThere, IsWaited, IsReason, IsEvent, IsEntry}
+use Rattle.wf_journal.proofs.FieldLemmas.{before_end, field_again, field_last, one_again, two_again, three_again, four_again, hex64_read, hex32_read, decimal64_read, decimal32_read, decimal8_read, wide_read, right_read, zero_patch_read, no_patch_read, actor_read}
 
 -- what an event's name and the rest are read as
 abbrev read_event : List ℕ → Option Event
@@ -91,7 +91,7 @@ there_again : (harts : ℕ) (a : Actor) → IsThere harts a → there harts a �
 there_again harts (actor.Hart h) e = let t : nat_lt h harts ≡ true = grind (arith, nat_tests) in ap (λ (b : Bool). cond b (Some (actor.Hart h)) None) t
 there_again harts actor.Kernel e = refl
 
-abbrev entry_with : Actor → Event → Option Entry
+abbrev pub entry_with : Actor → Event → Option Entry
 entry_with a event = Some (record { actor = a; event = event })
 
 -- what stands behind an actor, read as an entry of it

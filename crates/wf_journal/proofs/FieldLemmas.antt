@@ -1,6 +1,6 @@
 -- What is written of a field is read back.
 use Rattle.std.proofs.Common.{◌≡◌, ◌≢◌, ◌<◌, ◌≤◌, ◌+◌, ◌-◌, ◌*◌, ◌/◌, ◌%◌, ◌^◌, ◌++◌, ◌∷◌, [], ℕ, zero, suc, List, Bool, true, false, cond, eqb, length, Option, Some, None, refl, sym, ap, subst, ◌∙◌, arith, append_assoc, append-nil, inl, inr, length-append}
-use Rattle.std.specs.Prelude.{option_map, option_and_then, codes}
+use Rattle.std.specs.Prelude.{option_and_then, codes}
 use Rattle.std.specs.List.{AllByRecursion}
 use Rattle.std.specs.Fmt.{digits, decimal, digit_glyph}
 use Rattle.std.proofs.lemmas.Bool.{cases_lt}
@@ -11,7 +11,7 @@ use Rattle.wf_text.proofs.LineLemmas.{before_mark, before_more, from_mark, from_
 use Rattle.wf_text.proofs.NumberLemmas.{IsBase, ten, sixteen, number_complete, last_complete, last_cell, last_none}
 use Rattle.wf_flat.specs.declared.event.Actor.{Actor}
 use Rattle.wf_flat.specs.declared.event.Actor.TheVariants.{Hart, Kernel}
-use Rattle.wf_journal.specs.Entries.{spaced, actor_text, right_text, patch_text}
+use Rattle.wf_journal.specs.Entries.{actor_text, right_text, patch_text}
 use Rattle.wf_journal.specs.Fields.{word_at, field, ended, one, two, three, four, hex64, hex32, decimal64, decimal32, decimal8, wide_hex, right_of, patch_of, actor_of, as_hart, as_patch}
 use Rattle.wf_journal.specs.Laws.{IsActor, IsPatch}
 
