@@ -37,9 +37,24 @@ fn frame_words_have_their_bits(rt: HostRuntime) {
     let fresh = 0x8000_0100_0000_0000;
     assert_eq!(rt; frame_word(first), fresh);
     // A hart takes the frame, writes it, and gives it back: bit 0, then one more.
-    assert_eq!(rt; frame_fields(fresh | 1), FrameWord { taken: true, ..first });
-    assert_eq!(rt; frame_fields((fresh | 1) + 1), FrameWord { writes: 1, ..first });
-    assert_eq!(rt; frame_fields(fresh & !(1 << 63)), FrameWord { live: false, ..first });
+    assert_eq!(rt;
+        frame_fields(fresh | 1),
+        FrameWord {
+            taken: true,
+            ..first
+        }
+    );
+    assert_eq!(rt;
+        frame_fields((fresh | 1) + 1),
+        FrameWord { writes: 1, ..first }
+    );
+    assert_eq!(rt;
+        frame_fields(fresh & !(1 << 63)),
+        FrameWord {
+            live: false,
+            ..first
+        }
+    );
     let last = FrameWord {
         taken: true,
         writes: (1 << 39) - 1,

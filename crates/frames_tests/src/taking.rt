@@ -56,9 +56,12 @@ fn a_frame_is_worn_after_its_last_incarnation(rt: HostRuntime) -> Result<(), Fai
     frames.give(5);
     assert!(rt; frames.count() == 64 && frames.state(5) == FrameState::Free);
     frames.mark(5);
+    assert!(rt; frames.count() == 64);
     frames.raise(5);
+    assert!(rt; frames.count() == 64);
     assert_eq!(rt; frames.incarnation(5), 1);
     frames.raise(5);
+    assert!(rt; frames.count() == 64);
     assert_eq!(rt; frames.incarnation(5), 1, "the last one stays");
     assert_eq!(rt; frames.incarnation(6), 0);
     assert!(rt; frames.state(5) == FrameState::InUse);

@@ -2,6 +2,12 @@
 ghost use Rattle.std.specs.Prelude.{◌≡◌};
 ghost use Rattle.wf_frames.specs.FrameWords.{AreFields, fields_of, word_of};
 
+/// All bits of a word but bit 0, which says that a hart has taken the frame.
+pub const ALL_BUT_TAKEN: u64 = 0xFFFF_FFFF_FFFF_FFFE;
+
+/// All bits of a word but bit 63, which says that the frame is live.
+pub const ALL_BUT_LIVE: u64 = 0x7FFF_FFFF_FFFF_FFFF;
+
 /// What stands in a frame word: whether a hart has taken the frame, how often the frame was written
 /// in this incarnation, its incarnation, and whether it is live.
 #[derive(Clone, Copy, Debug, PartialEq, Eq)]

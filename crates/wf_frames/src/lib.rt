@@ -4,12 +4,14 @@
 
 mod fields;
 mod frames;
+mod laws;
 mod layout;
 mod state;
 mod words;
 
-pub use fields::{FrameWord, frame_fields, frame_word};
+pub use fields::{ALL_BUT_LIVE, ALL_BUT_TAKEN, FrameWord, frame_fields, frame_word};
 pub use frames::Frames;
+pub use laws::frame_words_change;
 pub use layout::{frame_word_place, word_count, word_place};
 pub use state::{Frame, FrameState, TakeFault};
 pub use words::Words;
