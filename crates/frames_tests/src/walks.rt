@@ -1,6 +1,6 @@
 //! Walks through a table, at the edges of each level.
 ghost use Rattle.std.specs.Prelude.{◌≡◌, ◌<◌, ◌⊎◌, ℕ, true};
-ghost use Rattle.wf_sv39.specs.Entries as entries;
+ghost use Rattle.wf_sv39.specs.Entries.{pte_node as pointer};
 ghost use Rattle.wf_sv39.specs.Tables.{IsLeaf, IsPointer, IsTable};
 
 use std::test::Fail;
@@ -53,7 +53,7 @@ fn is_table_0(words: &Words, node: u32) -> bool
 // Whether an entry is 0, or points to a table of level 0.
 fn leads_to_0(words: &Words, pte: u64) -> bool
     ensures pointer { result ≡ true → (pte ≡ 0) ⊎ IsPointer words.now.frames pte }
-    ensures below { result ≡ true → (next : ℕ) → pte ≡ entries.pte_node next → IsTable words.now 0 next }
+    ensures below { result ≡ true → (next : ℕ) → pte ≡ pointer next → IsTable words.now 0 next }
 {
     if pte == 0 {
         return true;
@@ -81,7 +81,7 @@ fn is_table_1(words: &Words, node: u32) -> bool
 // Whether an entry is 0, or points to a table of level 1.
 fn leads_to_1(words: &Words, pte: u64) -> bool
     ensures pointer { result ≡ true → (pte ≡ 0) ⊎ IsPointer words.now.frames pte }
-    ensures below { result ≡ true → (next : ℕ) → pte ≡ entries.pte_node next → IsTable words.now 1 next }
+    ensures below { result ≡ true → (next : ℕ) → pte ≡ pointer next → IsTable words.now 1 next }
 {
     if pte == 0 {
         return true;
@@ -106,8 +106,8 @@ fn is_table_2(words: &Words, node: u32) -> bool
     true
 }
 
-// The nodes are the frames 10 to 14, and the pages 20 to 22: the lowest page, the one at 0x40_1000, and
-// the highest below 2^38.
+// The nodes are the frames 10 to 15, and the pages 20 to 22: the lowest page, the one at 0x40_1000,
+// and the highest below 2^38, whose leaf the test adds.
 fn table() -> [(u32, usize, u64); 7] {
     [
         (10, 0, pte_node(11)),
