@@ -1,10 +1,13 @@
 #!/bin/sh
-# Reads and loads the largest files that there may be, by `elf_dump`, which then prints a line for each page:
+# Reads and loads the largest files that there may be: by `elf_dump`, which then prints a line for each page, and by
+# `wfpatch`, which runs one unit of them, or refuses them for their frames.
 # `large` has 64 MiB, of which all but a page go into a segment of 65,535 pages; `pages` has 65,535 segments
 # of one page each, by falling address; `bytes` has 65,535 segments of one byte each, on 17 pages. It wants
-# the program that `rt ci` left in crates/elf_dump/out, and GNU time. Run it at the top of the repository.
+# the programs that `rt ci` left in crates/elf_dump/out and crates/wfpatch/out, and GNU time. Run it at the top
+# of the repository.
 set -eu
-program=$PWD/crates/elf_dump/out/elf_dump
+dump=$PWD/crates/elf_dump/out/elf_dump
+wfpatch=$PWD/crates/wfpatch/out/wfpatch
 folder=$(mktemp -d)
 trap 'rm -rf "$folder"' EXIT
 cd "$folder"
@@ -38,13 +41,20 @@ make 1 67108864 large
 make 65534 3678216 pages
 make 65534 3678216 bytes
 
-for name in large pages bytes; do
-    "$program" "$name" >out
+# five runs of a command, whose exit status is not looked at: milliseconds a run, and the peak of memory
+timed() {
+    "$@" >out 2>line || true
     start=$(date +%s%N)
     for run in 1 2 3 4 5; do
-        "$program" "$name" >out
+        "$@" >out 2>line || true
     done
     end=$(date +%s%N)
-    peak=$(/usr/bin/time -f %M "$program" "$name" 2>&1 >out)
-    echo "$name: $(((end - start) / 5000000)) milliseconds a run over 5 runs, $(grep -c ^page out) pages, peak $peak KiB"
+    peak=$({ /usr/bin/time -f %M "$@" 2>&1 >out || true; } | tail -n 1)
+    echo "$(((end - start) / 5000000)) milliseconds a run over 5 runs, peak $peak KiB"
+}
+
+echo 'step h0 1' >steps.txt
+for name in large pages bytes; do
+    echo "elf_dump $name: $(timed "$dump" "$name"), $(grep -c ^page out) pages"
+    echo "wfpatch $name: $(timed "$wfpatch" run "$name" steps.txt), $(cat line)"
 done
