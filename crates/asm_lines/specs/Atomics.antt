@@ -1,5 +1,5 @@
--- Atomic instructions: a mnemonic, and its width and order behind a point (RISC-V unprivileged ISA, "Atomic
--- Memory Operations" and "Load-Reserved/Store-Conditional Instructions").
+-- Atomic instructions: a mnemonic, and its width and order behind a point (RISC-V unprivileged ISA,
+-- "Atomic Memory Operations" and "Load-Reserved/Store-Conditional Instructions").
 use Rattle.std.specs.Prelude.{ℕ, Bool, true, false, List, codes, drop, find, take, length, unwrap_or, Option, Some, None, if◌then◌else◌}
 use Rattle.std.specs.Str.{bytes_eq}
 use Rattle.rv_alu.specs.declared.op.AmoOp.{AmoOp}

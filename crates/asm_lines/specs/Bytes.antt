@@ -11,7 +11,8 @@ is_digit b = nat_le 48 b && nat_le b 57
 
 -- a letter, _, . or $
 abbrev pub is_name_start : ℕ → Bool
-is_name_start b = (nat_le 65 b && nat_le b 90) || (nat_le 97 b && nat_le b 122) || b == 95 || b == 46 || b == 36
+is_name_start b =
+    (nat_le 65 b && nat_le b 90) || (nat_le 97 b && nat_le b 122) || b == 95 || b == 46 || b == 36
 
 abbrev pub is_name_byte : ℕ → Bool
 is_name_byte b = is_name_start b || is_digit b
@@ -30,7 +31,8 @@ name_len text = place_or_end (λ b. not (is_name_byte b)) text
 
 -- a name: bytes of names, the first no digit
 abbrev pub is_name : List ℕ → Bool
-is_name text = nat_lt 0 (length text) && is_name_start (slice_index text 0) && list_all is_name_byte text
+is_name text =
+    nat_lt 0 (length text) && is_name_start (slice_index text 0) && list_all is_name_byte text
 
 -- without the blanks at the front
 abbrev pub trimmed_start : List ℕ → List ℕ

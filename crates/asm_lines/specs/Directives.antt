@@ -39,11 +39,13 @@ number width args = option_map (λ n. Number width n) (number_of args)
 -- a number in so many bytes, or a name with an addend
 unfoldable pub number_or_name : ℕ → List ℕ → Option Asked
 number_or_name width args =
-    or_else (number width args) (option_map (λ r. Named (use_.Address width r.1) r.0) (name_and_addend args))
+    or_else (number width args)
+    (option_map (λ r. Named (use_.Address width r.1) r.0) (name_and_addend args))
 
 -- .hex DIGITS, an even number of them
 unfoldable pub hex_digits : List ℕ → Option Asked
-hex_digits args = when (nat_lt 0 (length args) && length args % 2 == 0 && list_all is_hex_digit args) (Hex args)
+hex_digits args =
+    when (nat_lt 0 (length args) && length args % 2 == 0 && list_all is_hex_digit args) (Hex args)
 
 -- a space or a printable byte, but no quote
 abbrev pub is_printable : ℕ → Bool
@@ -52,15 +54,19 @@ is_printable b = nat_le 32 b && nat_le b 126 && not (b == 34)
 -- .ascii "TEXT"
 unfoldable pub ascii : List ℕ → Option Asked
 ascii args =
-    if nat_le 2 (length args) && slice_index args 0 == 34 && slice_index args (length args - 1) == 34
-    then when (list_all is_printable (slice_range args 1 (length args - 1))) (Ascii (slice_range args 1 (length args - 1)))
+    if nat_le 2 (length args) && slice_index args 0 == 34
+    && slice_index args (length args - 1) == 34
+    then when (list_all is_printable (slice_range args 1 (length args - 1)))
+    (Ascii (slice_range args 1 (length args - 1)))
     else None
 
 -- the directives of names and places
 unfoldable pub place_directive : List ℕ → List ℕ → Option Asked
 place_directive mnemonic args =
-    if bytes_eq mnemonic (codes ".globl") then option_map (λ name. Named use_.Globl name) (name_of args)
-    else if bytes_eq mnemonic (codes ".size") then option_map (λ name. Named use_.Size name) (name_of args)
+    if bytes_eq mnemonic (codes ".globl")
+    then option_map (λ name. Named use_.Globl name) (name_of args)
+    else if bytes_eq mnemonic (codes ".size")
+    then option_map (λ name. Named use_.Size name) (name_of args)
     else if bytes_eq mnemonic (codes ".align") then align args
     else section_directive mnemonic args
 

@@ -1,4 +1,5 @@
--- Instructions, as their texts show them (RISC-V unprivileged ISA, "RV32/64G Instruction Set Listings").
+-- Instructions, as their texts show them (RISC-V unprivileged ISA, "RV32/64G Instruction Set
+-- Listings").
 use Rattle.std.specs.Prelude.{ℕ, ℤ, pos, ◌^◌, ◌-ℤ◌, ◌*ℤ◌, ◌&&◌, Bool, true, false, List, [], ◌∷◌, codes, find, int_le, int_lt, Option, Some, None, if◌then◌else◌}
 use Rattle.std.specs.Option.{option_map}
 use Rattle.std.specs.Str.{bytes_eq}
@@ -73,13 +74,16 @@ jalr mnemonic args =
 abbrev pub upper : ℤ → ℤ
 upper n =
     if int_le (pos 0) n && int_lt n (pos (2 ^ 19)) then n *ℤ pos (2 ^ 12)
-    else if int_le (pos (2 ^ 19)) n && int_lt n (pos (2 ^ 20)) then (n -ℤ pos (2 ^ 20)) *ℤ pos (2 ^ 12)
+    else if int_le (pos (2 ^ 19)) n && int_lt n (pos (2 ^ 20))
+    then (n -ℤ pos (2 ^ 20)) *ℤ pos (2 ^ 12)
     else unfit
 
 unfoldable pub upper_inst : List ℕ → List ℕ → Option Inst
 upper_inst mnemonic args =
-    if bytes_eq mnemonic (codes "lui") then option_map (λ r. Lui r.0 (upper r.1)) (register_and_number args)
-    else if bytes_eq mnemonic (codes "auipc") then option_map (λ r. Auipc r.0 (upper r.1)) (register_and_number args)
+    if bytes_eq mnemonic (codes "lui")
+    then option_map (λ r. Lui r.0 (upper r.1)) (register_and_number args)
+    else if bytes_eq mnemonic (codes "auipc")
+    then option_map (λ r. Auipc r.0 (upper r.1)) (register_and_number args)
     else None
 
 -- an instruction without operands; fence is that of all reads and writes, of memory and of devices

@@ -44,8 +44,8 @@ statement_with mnemonic args =
 abbrev pub mnemonic_len : List ℕ → ℕ
 mnemonic_len text = place_or_end is_blank text
 
--- what a text asks for that has no comment and no blanks at its ends: nothing, or a mnemonic and its
--- operands behind blanks
+-- what a text asks for that has no comment and no blanks at its ends: nothing, or a mnemonic and
+-- its operands behind blanks
 unfoldable pub statement_of : List ℕ → Option Asked
 statement_of [] = Some Empty
 statement_of (b ∷ bs) =
@@ -60,11 +60,12 @@ with_label label statement = record { label = label; asked = statement }
 unfoldable pub labelled : ℕ → List ℕ → Option LineValue
 labelled n code =
     if is_name (take n code)
-    then option_map (with_label (Some (take n code))) (statement_of (trimmed_start (drop (n + 1) code)))
+    then option_map (with_label (Some (take n code)))
+    (statement_of (trimmed_start (drop (n + 1) code)))
     else None
 
--- A line without its newline: a comment is passed over; a name and a colon in front are a label; and what
--- is left is a statement.
+-- A line without its newline: a comment is passed over; a name and a colon in front are a label;
+-- and what is left is a statement.
 unfoldable pub line_of : List ℕ → Option LineValue
 line_of line =
     if slice_index (code_of line) (name_len (code_of line)) == 58

@@ -8,7 +8,8 @@ use Rattle.asm_lines.specs.Registers.{register_of}
 
 -- what stands before the first comma and behind it, each without blanks at its ends
 unfoldable pub pair : List ℕ → Option (List ℕ × List ℕ)
-pair text = option_map (λ i. (trimmed (take i text), trimmed (drop (i + 1) text))) (place_of 44 text)
+pair text =
+    option_map (λ i. (trimmed (take i text), trimmed (drop (i + 1) text))) (place_of 44 text)
 
 -- a name
 abbrev pub name_of : List ℕ → Option (List ℕ)
@@ -28,7 +29,8 @@ immediate_of text = option_map immediate (number_of text)
 -- a register in parentheses
 unfoldable pub in_parentheses : List ℕ → Option ℕ
 in_parentheses text =
-    if nat_le 2 (length text) && slice_index text 0 == 40 && slice_index text (length text - 1) == 41
+    if nat_le 2 (length text) && slice_index text 0 == 40
+    && slice_index text (length text - 1) == 41
     then register_of (slice_range text 1 (length text - 1))
     else None
 

@@ -1,5 +1,5 @@
--- The names of registers: x0 to x31, and those of the calling convention (RISC-V ELF psABI, "Integer
--- Register Convention").
+-- The names of registers: x0 to x31, and those of the calling convention (RISC-V ELF psABI,
+-- "Integer Register Convention").
 use Rattle.std.specs.Prelude.{ℕ, ◌+◌, ◌==◌, ◌&&◌, List, drop, codes, nat_lt, slice_index, Option, Some, None, if◌then◌else◌}
 use Rattle.std.specs.Str.{bytes_eq}
 use Rattle.asm_lines.specs.Choice.{◌>>=◌}

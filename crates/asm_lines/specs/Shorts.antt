@@ -16,12 +16,18 @@ bare_short mnemonic [] =
     else None
 bare_short mnemonic (b ∷ bs) = None
 
--- with operands: mv RD, RS is addi RD, RS, 0; li RD, N; la RD, NAME; call NAME; and j NAME is jal x0, NAME
+-- with operands: mv RD, RS is addi RD, RS, 0; li RD, N; la RD, NAME; call NAME; and j NAME is jal
+-- x0, NAME
 unfoldable pub short : List ℕ → List ℕ → Option Asked
 short mnemonic args =
-    if bytes_eq mnemonic (codes "mv") then option_map (λ r. Plain (AluImm Add r.0 r.1 (pos 0))) (two_registers args)
-    else if bytes_eq mnemonic (codes "li") then option_map (λ r. Li r.0 r.1) (register_and_number args)
-    else if bytes_eq mnemonic (codes "la") then option_map (λ r. Named (La r.0) r.1) (register_and_name args)
-    else if bytes_eq mnemonic (codes "call") then option_map (λ name. Named Call name) (name_of args)
-    else if bytes_eq mnemonic (codes "j") then option_map (λ name. Named (Jal 0) name) (name_of args)
+    if bytes_eq mnemonic (codes "mv")
+    then option_map (λ r. Plain (AluImm Add r.0 r.1 (pos 0))) (two_registers args)
+    else if bytes_eq mnemonic (codes "li")
+    then option_map (λ r. Li r.0 r.1) (register_and_number args)
+    else if bytes_eq mnemonic (codes "la")
+    then option_map (λ r. Named (La r.0) r.1) (register_and_name args)
+    else if bytes_eq mnemonic (codes "call")
+    then option_map (λ name. Named Call name) (name_of args)
+    else if bytes_eq mnemonic (codes "j")
+    then option_map (λ name. Named (Jal 0) name) (name_of args)
     else bare_short mnemonic args

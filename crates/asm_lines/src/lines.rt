@@ -108,8 +108,8 @@ fn labelled(end: usize, code: &[u8]) -> Option<Line<'_>>
     })
 }
 
-/// Reads a line: what it says, which is given without its newline; or `None` where it is no line of the language.
-/// The time is that of its length.
+/// Reads a line: what it says, which is given without its newline; or `None` where it is no line of
+/// the language. The time is that of its length.
 #[tactic(auto, unfolding(crate::specs::Lines::line_of))]
 pub fn read_line(text: &[u8]) -> Option<Line<'_>>
     ensures { option_map line_value result ≡ line_of text.now }

@@ -11,7 +11,8 @@ use crate::registers::register_of;
 // What stands before the first comma and behind it, without blanks.
 #[tactic(auto, unfolding(crate::specs::Operands::pair))]
 pub fn pair(text: &[u8]) -> Option<(&[u8], &[u8])>
-    ensures { MatchOption result (pair text.now ≡ None) (λ x. pair text.now ≡ Some (x.0.now, x.1.now)) }
+    ensures { MatchOption result (pair text.now ≡ None)
+        (λ x. pair text.now ≡ Some (x.0.now, x.1.now)) }
 {
     let at = place_of(b',', text)?;
     Some((trimmed(&text[..at]), trimmed(&text[at + 1..])))
@@ -112,7 +113,8 @@ pub fn register_and_address(args: &[u8]) -> Option<(u8, i64, u8)>
 // A register and a name.
 #[tactic(auto, unfolding(crate::specs::Operands::register_and_name))]
 pub fn register_and_name(args: &[u8]) -> Option<(u8, &[u8])>
-    ensures { MatchOption result (register_and_name args.now ≡ None) (λ x. register_and_name args.now ≡ Some (x.0, x.1.now)) }
+    ensures { MatchOption result (register_and_name args.now ≡ None)
+        (λ x. register_and_name args.now ≡ Some (x.0, x.1.now)) }
 {
     let (register, name) = pair(args)?;
     let register = register_of(register)?;
@@ -146,7 +148,8 @@ fn addend_of(text: &[u8]) -> Option<i128>
 // A name and an addend.
 #[tactic(auto, unfolding(crate::specs::Operands::name_and_addend))]
 pub fn name_and_addend(text: &[u8]) -> Option<(&[u8], i128)>
-    ensures { MatchOption result (name_and_addend text.now ≡ None) (λ x. name_and_addend text.now ≡ Some (x.0.now, x.1)) }
+    ensures { MatchOption result (name_and_addend text.now ≡ None)
+        (λ x. name_and_addend text.now ≡ Some (x.0.now, x.1)) }
 {
     let end = name_len(text);
     let name = name_of(&text[..end])?;

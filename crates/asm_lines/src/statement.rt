@@ -34,7 +34,8 @@ pub enum Use {
     La { rd: u8 },
 }
 
-/// What a line asks for, before any name is known. Numbers are as written, and at most 2^66 in size.
+/// What a line asks for, before any name is known. Numbers are as written, and at most 2^66 in
+/// size.
 #[derive(Drop)]
 pub enum Statement<'a> {
     /// Nothing.

@@ -10,3 +10,5 @@ mod loading;
 mod outside;
 #[cfg(test)]
 mod reading;
+#[cfg(test)]
+mod writing;

@@ -1,3 +1,4 @@
 mod LengthLemmas
+mod OrderLemmas
 mod PartLemmas
 mod WrittenLemmas

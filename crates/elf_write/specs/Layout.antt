@@ -8,20 +8,26 @@ use Rattle.elf_write.specs.Modules.{ModuleValue}
 use Rattle.elf_write.specs.Parts.{strings}
 use Rattle.elf_write.specs.Places.{rounded_up}
 
--- The addresses of the sections, where .text, .rodata and .data have so many bytes: .text at 0x10000,
--- .rodata and .data at the first page that begins behind what stands before them, and .bss behind .data
--- at a multiple of 8.
+-- The addresses of the sections, where .text, .rodata and .data have so many bytes: .text at
+-- 0x10000, .rodata and .data at the first page that begins behind what stands before them, and .bss
+-- behind .data at a multiple of 8.
 unfoldable pub bases_of : ℕ → ℕ → ℕ → Bases
 bases_of text rodata rwdata =
     let rodata_at = rounded_up 4096 (0x10000 + text) in
     let data_at = rounded_up 4096 (rodata_at + rodata) in
-    record { text = 0x10000; rodata = rodata_at; rwdata = data_at; bss = rounded_up 8 (data_at + rwdata) }
+    record {
+      text = 0x10000;
+      rodata = rodata_at;
+      rwdata = data_at;
+      bss = rounded_up 8 (data_at + rwdata);
+    }
 
 -- 1 for a segment that is there, with bytes or with memory alone
 abbrev pub present : ℕ → ℕ
 present bytes = if bytes == 0 then 0 else 1
 
--- where so many bytes of contents stand behind a place: at a page's start; nothing stands at the place
+-- where so many bytes of contents stand behind a place: at a page's start; nothing stands at the
+-- place
 abbrev pub content_at : ℕ → ℕ → ℕ
 content_at place bytes = if bytes == 0 then place else rounded_up 4096 place
 
@@ -53,8 +59,9 @@ sizes m = sizes_with m (length (strings m.symbols))
 abbrev pub segment_count : Sizes → ℕ
 segment_count s = present s.text + present s.rodata + present (s.rwdata + s.bss)
 
--- The places of the parts: the contents behind the headers of segments; the symbols, their names, the
--- names of the sections, and the headers of the 8 sections, each at a multiple of 8; and the file's end.
+-- The places of the parts: the contents behind the headers of segments; the symbols, their names,
+-- the names of the sections, and the headers of the 8 sections, each at a multiple of 8; and the
+-- file's end.
 unfoldable pub layout_of : Sizes → Layout
 layout_of s =
     let text = content_at (64 + 56 * segment_count s) s.text in
@@ -64,7 +71,16 @@ layout_of s =
     let strtab = rounded_up 8 (symtab + 24 * (s.symbols + 1)) in
     let shstrtab = rounded_up 8 (strtab + s.strings) in
     let headers = rounded_up 8 (shstrtab + 52) in
-    record { text = text; rodata = rodata; rwdata = rwdata; symtab = symtab; strtab = strtab; shstrtab = shstrtab; headers = headers; end = headers + 64 * 8 }
+    record {
+      text = text;
+      rodata = rodata;
+      rwdata = rwdata;
+      symtab = symtab;
+      strtab = strtab;
+      shstrtab = shstrtab;
+      headers = headers;
+      end = headers + 64 * 8;
+    }
 
 -- the sizes, the places and the addresses of a module's parts
 abbrev pub plan_of : ModuleValue → Plan
@@ -84,7 +100,8 @@ pub record IsInOrder (s : Sizes) (l : Layout) : Type 0 where
   pub shstrtab : l.shstrtab + 52 ≤ l.headers
   pub headers : l.headers + 512 ≤ l.end
 
--- the parts of a module with so many symbols and bytes of names, and their addresses, have room in a file
+-- the parts of a module with so many symbols and bytes of names, and their addresses, have room in
+-- a file
 pub record HasRoom (count bytes : ℕ) (p : Plan) : Type 0 where
   pub order : IsInOrder p.sizes p.layout
   pub short : p.layout.end < 2 ^ 32

@@ -1,5 +1,5 @@
 -- The names and the symbols in a file (System V ABI, "String Table" and "Symbol Table").
-use Rattle.std.specs.Prelude.{ℕ, ◌+◌, List, [], ◌∷◌, ◌++◌, Bool, not, codes, length, replicate, if◌then◌else◌}
+use Rattle.std.specs.Prelude.{◌≡◌, ◌≢◌, ◌≤◌, ℕ, ◌+◌, List, [], ◌∷◌, ◌++◌, Bool, not, All, codes, length, replicate, if◌then◌else◌}
 use Rattle.std.specs.List.{flat_map, filter}
 use Rattle.elf_write.specs.declared.module.ModSymbol.{ModSymbol}
 use Rattle.elf_write.specs.Places.{halves, words, xwords}
@@ -39,6 +39,19 @@ symbols_from name (s ∷ ss) = symbol_bytes name s ++ symbols_from (name + lengt
 abbrev pub symbol_table : List ModSymbol → List ℕ
 symbol_table symbols = replicate 24 0 ++ symbols_from 1 symbols
 
--- the local symbols
+-- the local symbols, and the others
 abbrev pub locals : List ModSymbol → List ModSymbol
 locals symbols = filter (λ s. not s.global) symbols
+
+abbrev pub globals : List ModSymbol → List ModSymbol
+globals symbols = filter (λ s. s.global) symbols
+
+-- the local symbols stand before the others
+abbrev pub AreLocalsFirst : List ModSymbol → Type 0
+AreLocalsFirst symbols = symbols ≡ locals symbols ++ globals symbols
+
+-- the symbol stands in a section that is there, and its name has no zero byte
+pub record IsSymbol (s : ModSymbol) : Type 0 where
+  pub after_null : 1 ≤ s.section
+  pub before_symtab : s.section ≤ 4
+  pub named : All (λ b. b ≢ 0) s.name

@@ -11,8 +11,8 @@ placed at bytes front = front ++ replicate (at - length front) 0 ++ bytes
 abbrev pub rounded_up : ℕ → ℕ → ℕ
 rounded_up n at = (at + (n - 1)) / n * n
 
--- Numbers of 16, 32 and 64 bits, one after another: Half, Word and Xword of ELF64 (System V ABI, "Data
--- Representation").
+-- Numbers of 16, 32 and 64 bits, one after another: Half, Word and Xword of ELF64 (System V ABI,
+-- "Data Representation").
 abbrev pub halves : List ℕ → List ℕ
 halves numbers = flat_map (little_bytes 2) numbers
 

@@ -1,8 +1,10 @@
--- The headers of segments and sections in a file (System V ABI, "Program Header" and "Section Header").
+-- The headers of segments and sections in a file (System V ABI, "Program Header" and "Section
+-- Header").
 use Rattle.std.specs.Prelude.{ℕ, ◌+◌, ◌-◌, ◌*◌, ◌==◌, List, [], ◌∷◌, ◌++◌, if◌then◌else◌}
 use Rattle.elf_read.specs.declared.records.Segment.{Segment}
 use Rattle.elf_read.specs.declared.records.Section.{Section}
-use Rattle.elf_write.specs.declared.constants.TheConstants.{PT_LOAD, PF_X, PF_W, PF_R, SHT_NULL, SHT_PROGBITS, SHT_SYMTAB, SHT_STRTAB, SHT_NOBITS, SHF_WRITE, SHF_ALLOC, SHF_EXECINSTR}
+use Rattle.elf_read.specs.declared.constants.TheConstants.{PT_LOAD, PF_X, PF_W, PF_R, SHT_NULL, SHT_PROGBITS, SHT_SYMTAB, SHT_STRTAB, SHT_NOBITS}
+use Rattle.elf_write.specs.declared.constants.TheConstants.{SHF_WRITE, SHF_ALLOC, SHF_EXECINSTR}
 use Rattle.elf_write.specs.declared.layout.Bases.{Bases}
 use Rattle.elf_write.specs.declared.layout.Layout.{Layout}
 use Rattle.elf_write.specs.declared.layout.Sizes.{Sizes}
@@ -16,16 +18,19 @@ segment_bytes s =
 
 -- the bytes of a section header: to sh_size, and from sh_link on
 unfoldable pub section_front : Section → List ℕ
-section_front s = words (s.sh_name ∷ s.sh_type ∷ []) ++ xwords (s.sh_flags ∷ s.sh_addr ∷ s.sh_offset ∷ s.sh_size ∷ [])
+section_front s =
+    words (s.sh_name ∷ s.sh_type ∷ [])
+    ++ xwords (s.sh_flags ∷ s.sh_addr ∷ s.sh_offset ∷ s.sh_size ∷ [])
 
 unfoldable pub section_back : Section → List ℕ
-section_back s = words (s.sh_link ∷ s.sh_info ∷ []) ++ xwords (s.sh_addralign ∷ s.sh_entsize ∷ [])
+section_back s =
+    words (s.sh_link ∷ s.sh_info ∷ []) ++ xwords (s.sh_addralign ∷ s.sh_entsize ∷ [])
 
 abbrev pub section_bytes : Section → List ℕ
 section_bytes s = section_front s ++ section_back s
 
--- a segment to be loaded, with rights, from a place of the file to an address, of so many bytes there and
--- in memory
+-- a segment to be loaded, with rights, from a place of the file to an address, of so many bytes
+-- there and in memory
 abbrev pub load : ℕ → ℕ → ℕ → ℕ → ℕ → Segment
 load rights offset addr filesz memsz = record {
   p_type = PT_LOAD;
@@ -46,12 +51,17 @@ if_any bytes s = if bytes == 0 then [] else s ∷ []
 abbrev pub data_memory : Sizes → Bases → ℕ
 data_memory s bases = if s.bss == 0 then s.rwdata else bases.bss + s.bss - bases.rwdata
 
--- the segments, of .text, of .rodata, and of .data with .bss; one that has no bytes in the file has place 0
+-- where the bytes of .data stand; nothing stands at place 0
+abbrev pub data_place : Sizes → Layout → ℕ
+data_place s l = if s.rwdata == 0 then 0 else l.rwdata
+
+-- the segments: of .text, of .rodata, and of .data with .bss
 unfoldable pub segments_of : Sizes → Layout → Bases → List Segment
 segments_of s l bases =
     if_any s.text (load (PF_R + PF_X) l.text bases.text s.text s.text)
     ++ if_any s.rodata (load PF_R l.rodata bases.rodata s.rodata s.rodata)
-    ++ if_any (s.rwdata + s.bss) (load (PF_R + PF_W) (if s.rwdata == 0 then 0 else l.rwdata) bases.rwdata s.rwdata (data_memory s bases))
+    ++ if_any (s.rwdata + s.bss)
+    (load (PF_R + PF_W) (data_place s l) bases.rwdata s.rwdata (data_memory s bases))
 
 -- a section that is loaded: where its name stands, its type, rights, address, place and size
 abbrev pub contents : ℕ → ℕ → ℕ → ℕ → ℕ → ℕ → Section
@@ -98,8 +108,8 @@ symtab_section offset size locals = record {
   sh_entsize = 24;
 }
 
--- The sections: null, .text, .rodata, .data, .bss, .symtab, .strtab and .shstrtab, whose names stand in
--- .shstrtab at 1, 7, 15, 21, 26, 34 and 42. So many symbols are local.
+-- The sections: null, .text, .rodata, .data, .bss, .symtab, .strtab and .shstrtab, whose names
+-- stand in .shstrtab at 1, 7, 15, 21, 26, 34 and 42. So many symbols are local.
 unfoldable pub sections_of : Sizes → Layout → Bases → ℕ → List Section
 sections_of s l bases locals =
     null_section

@@ -1,15 +1,14 @@
 -- The file that holds a module, and which modules have one.
-use Rattle.std.specs.Prelude.{◌≡◌, ◌≢◌, ◌≤◌, ◌<◌, ◌^◌, ℕ, ◌==◌, ◌++◌, List, [], ◌∷◌, All, length, if◌then◌else◌}
-use Rattle.std.specs.List.{flat_map, filter}
+use Rattle.std.specs.Prelude.{◌≡◌, ◌≤◌, ◌<◌, ◌^◌, ℕ, ◌==◌, ◌++◌, List, [], ◌∷◌, All, length, if◌then◌else◌}
+use Rattle.std.specs.List.{flat_map}
 use Rattle.elf_read.specs.declared.records.Segment.{Segment}
 use Rattle.elf_read.specs.declared.records.Section.{Section}
-use Rattle.elf_write.specs.declared.constants.TheConstants.{ET_EXEC, EM_RISCV, EV_CURRENT}
-use Rattle.elf_write.specs.declared.module.ModSymbol.{ModSymbol}
+use Rattle.elf_read.specs.declared.constants.TheConstants.{ET_EXEC, EM_RISCV, EV_CURRENT}
 use Rattle.elf_write.specs.declared.layout.Layout.{Layout}
 use Rattle.elf_write.specs.declared.layout.Plan.{Plan}
 use Rattle.elf_write.specs.Layout.{file_length, plan_of}
 use Rattle.elf_write.specs.Modules.{ModuleValue}
-use Rattle.elf_write.specs.Parts.{locals, section_names, strings, symbol_table}
+use Rattle.elf_write.specs.Parts.{locals, section_names, strings, symbol_table, AreLocalsFirst, IsSymbol}
 use Rattle.elf_write.specs.Places.{halves, placed, words, xwords}
 use Rattle.elf_write.specs.Records.{section_bytes, sections_of, segment_bytes, segments_of}
 
@@ -25,8 +24,8 @@ sections_in p locals = sections_of p.sizes p.layout p.bases locals
 abbrev pub if_segments : ℕ → ℕ → ℕ
 if_segments count number = if count == 0 then 0 else number
 
--- The header, to e_entry: the first 16 bytes say ELF, 64 bits, the lowest byte first, version 1 and no
--- system.
+-- The header, to e_entry: the first 16 bytes say ELF, 64 bits, the lowest byte first, version 1
+-- and no system.
 abbrev pub target_bytes : ℕ → List ℕ
 target_bytes entry =
     (0x7F ∷ 0x45 ∷ 0x4C ∷ 0x46 ∷ 2 ∷ 1 ∷ 1 ∷ 0 ∷ 0 ∷ 0 ∷ 0 ∷ 0 ∷ 0 ∷ 0 ∷ 0 ∷ 0 ∷ [])
@@ -34,8 +33,8 @@ target_bytes entry =
     ++ words (EV_CURRENT ∷ [])
     ++ xwords (entry ∷ [])
 
--- The header from e_phoff on, of a file with so many segments and 8 sections: e_phoff, e_shoff; e_flags;
--- e_ehsize, e_phentsize, e_phnum, e_shentsize, e_shnum and e_shstrndx.
+-- The header from e_phoff on, of a file with so many segments and 8 sections: e_phoff, e_shoff;
+-- e_flags; e_ehsize, e_phentsize, e_phnum, e_shentsize, e_shnum and e_shstrndx.
 abbrev pub table_bytes : ℕ → ℕ → List ℕ
 table_bytes segments headers =
     xwords (if_segments segments 64 ∷ headers ∷ [])
@@ -49,15 +48,17 @@ front_bytes entry segments headers =
 
 -- the contents of the sections behind them
 abbrev pub with_contents : ModuleValue → Layout → List ℕ → List ℕ
-with_contents m l front = placed l.rwdata m.rwdata (placed l.rodata m.rodata (placed l.text m.text front))
+with_contents m l front =
+    placed l.rwdata m.rwdata (placed l.rodata m.rodata (placed l.text m.text front))
 
 -- the symbols, their names, the names of the sections and the headers of the sections behind them
 abbrev pub with_tables : Layout → List ℕ → List ℕ → List ℕ → List ℕ → List ℕ
 with_tables l symbols names headers front =
-    placed l.headers headers (placed l.shstrtab section_names (placed l.strtab names (placed l.symtab symbols front)))
+    placed l.headers headers
+    (placed l.shstrtab section_names (placed l.strtab names (placed l.symtab symbols front)))
 
--- The file that holds a module with this plan: header, headers of segments, contents, symbols, their
--- names, the names of the sections, and the headers of the sections, each part at its place.
+-- The file that holds a module with this plan: header, headers of segments, contents, symbols,
+-- their names, the names of the sections, and the headers of the sections, each part at its place.
 unfoldable pub written_by : Plan → ModuleValue → List ℕ
 written_by p m =
     with_tables p.layout (symbol_table m.symbols) (strings m.symbols)
@@ -68,17 +69,11 @@ written_by p m =
 abbrev pub written : ModuleValue → List ℕ
 written m = written_by (plan_of m) m
 
--- the symbol stands in a section that is there, and its name has no zero byte
-pub record IsSymbol (s : ModSymbol) : Type 0 where
-  pub after_null : 1 ≤ s.section
-  pub before_symtab : s.section ≤ 4
-  pub named : All (λ b. b ≢ 0) s.name
-
--- What a module keeps that has a file: the symbols stand in its sections, the local ones before the
--- others, under names without zero bytes; nothing is left to be relocated; and .bss and the file are
--- not too long.
+-- What a module keeps that has a file: the symbols stand in its sections, the local ones before
+-- the others, under names without zero bytes; nothing is left to be relocated; and .bss and the file
+-- are not too long.
 pub record IsWritable (m : ModuleValue) : Type 0 where
-  pub order : m.symbols ≡ locals m.symbols ++ filter (λ s. s.global) m.symbols
+  pub order : AreLocalsFirst m.symbols
   pub symbols : All IsSymbol m.symbols
   pub relas : m.relas ≡ []
   pub bss : m.bss ≤ 2 ^ 32

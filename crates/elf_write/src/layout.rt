@@ -55,15 +55,15 @@ fn rounded_up(n: u128, at: u128) -> u128
     (at + (n - 1)) / n * n
 }
 
-/// The addresses of the sections, where `.text`, `.rodata` and `.data` have so many bytes: `.text` at
-/// 0x10000, `.rodata` and `.data` each at the first page behind what stands before it, and `.bss` behind
-/// `.data` at a multiple of 8.
+/// The addresses of the sections, where `.text`, `.rodata` and `.data` have so many bytes: `.text`
+/// at 0x10000, `.rodata` and `.data` each at the first page behind what stands before it, and `.bss`
+/// behind `.data` at a multiple of 8.
 #[tactic(auto, unfolding(crate::specs::Layout::bases_of))]
 pub fn bases_for(text_len: u64, rodata_len: u64, data_len: u64) -> Bases
     requires { (text_len < 2 ^ 60) × (rodata_len < 2 ^ 60) × (data_len < 2 ^ 60) }
     ensures value { result ≡ bases_of text_len rodata_len data_len }
-    // They rise.
-    ensures near { (result.rwdata ≤ result.bss) × (result.bss < 0x13008 + text_len + rodata_len + data_len) }
+    ensures rising { result.rwdata ≤ result.bss }
+    ensures near { result.bss < 0x13008 + text_len + rodata_len + data_len }
 {
     let rodata_at = rounded_up(4096, 0x10000 + u128::from(text_len));
     let data_at = rounded_up(4096, rodata_at + u128::from(rodata_len));

@@ -1,7 +1,7 @@
 //! Modules of machine code and data, and the ELF files that hold them.
 //!
-//! System V ABI, "ELF Header", "Program Header", "Section Header", "Symbol Table" and "String Table";
-//! RISC-V ELF psABI, "File Header".
+//! System V ABI, "ELF Header", "Program Header", "Section Header", "Symbol Table" and "String
+//! Table"; RISC-V ELF psABI, "File Header".
 #![tactic(auto)]
 
 mod constants;

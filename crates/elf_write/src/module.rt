@@ -1,9 +1,10 @@
 //! Modules.
-ghost use Rattle.std.specs.Prelude.{◌≡◌, ◌^◌, ◌-◌, min};
+ghost use Rattle.std.specs.Prelude.{◌≡◌, ◌^◌, ◌-◌, ◌↔◌, min, IsTrue};
 ghost use Rattle.elf_write.specs.Layout.{file_length};
+ghost use Rattle.elf_write.specs.Written.{IsWritable};
 
 use crate::layout::{layout_for, sizes_of};
-use crate::parts::strings_length;
+use crate::parts::{are_locals_first, are_symbols, strings_length};
 use std::marker::Model;
 use wf_outside::Text;
 
@@ -16,8 +17,8 @@ pub enum Form {
     Exec,
 }
 
-/// A symbol: its name; its section, 1 to 4 for `.text`, `.rodata`, `.data` and `.bss`; its address and
-/// its size in bytes; and whether other files see it.
+/// A symbol: its name; its section, 1 to 4 for `.text`, `.rodata`, `.data` and `.bss`; its address
+/// and its size in bytes; and whether other files see it.
 ///
 /// System V ABI, "Symbol Table".
 #[derive(Drop)]
@@ -29,8 +30,8 @@ pub struct ModSymbol {
     pub global: bool,
 }
 
-/// A relocation: its section, 1 to 3; where in it its field stands; its type; the place of its symbol
-/// among the module's, from 0; and what is added to that symbol's address.
+/// A relocation: its section, 1 to 3; where in it its field stands; its type; the place of its
+/// symbol among the module's, from 0; and what is added to that symbol's address.
 ///
 /// System V ABI, "Relocation".
 #[derive(Clone, Copy, Debug, PartialEq, Eq)]
@@ -42,8 +43,8 @@ pub struct ModRela {
     pub addend: i64,
 }
 
-/// Code and data: the address of the first instruction; the bytes of `.text`, `.rodata` and `.data`;
-/// the size of `.bss` in bytes; the symbols, the local ones first; and the relocations.
+/// Code and data: the address of the first instruction; the bytes of `.text`, `.rodata` and
+/// `.data`; the size of `.bss` in bytes; the symbols, the local ones first; and the relocations.
 #[derive(Drop)]
 pub struct Module {
     pub form: Form,
@@ -61,7 +62,16 @@ impl Model for Module {
 
     ghost Value = { ModuleValue };
 
-    ghost view = { λ m. record { form = m.form; entry = m.entry; text = m.text.items; rodata = m.rodata.items; rwdata = m.rwdata.items; bss = m.bss; symbols = m.symbols.items; relas = m.relas.items } };
+    ghost view = { λ m. record {
+      form = m.form;
+      entry = m.entry;
+      text = m.text.items;
+      rodata = m.rodata.items;
+      rwdata = m.rwdata.items;
+      bss = m.bss;
+      symbols = m.symbols.items;
+      relas = m.relas.items;
+    } };
 }
 
 // The number, or 2^64 - 1 where it is more.
@@ -83,5 +93,21 @@ impl Module {
     {
         let strings = strings_length(&self.symbols);
         capped(layout_for(&sizes_of(self, strings)).end)
+    }
+
+    /// Whether the module has a file: what `write` asks for.
+    pub fn is_writable(&self) -> bool
+        ensures { IsTrue result ↔ IsWritable self.now }
+    {
+        if !are_locals_first(&self.symbols) {
+            return false;
+        }
+        if !are_symbols(&self.symbols) {
+            return false;
+        }
+        if !self.relas.is_empty() {
+            return false;
+        }
+        self.bss <= 1 << 32 && self.length() < 1 << 32
     }
 }

@@ -1,6 +1,7 @@
 //! The names and the symbols in a file.
-ghost use Rattle.std.specs.Prelude.{◌≡◌, ◌<◌, ◌≤◌, ◌+◌, ◌-◌, ◌^◌, ◌++◌, length, min, OnOk, IfOk};
-ghost use Rattle.elf_write.specs.Parts.{info_of, locals, name_bytes, strings, symbol_bytes, symbol_table, symbols_from};
+ghost use Rattle.std.specs.Prelude.{◌≡◌, ◌<◌, ◌≤◌, ◌+◌, ◌-◌, ◌^◌, ◌++◌, ◌↔◌, length, min, not, All, IsTrue, OnOk, IfOk};
+ghost use Rattle.std.specs.List.{list_all};
+ghost use Rattle.elf_write.specs.Parts.{info_of, locals, name_bytes, strings, symbol_bytes, symbol_table, symbols_from, AreLocalsFirst, IsSymbol};
 
 use crate::ModSymbol;
 use crate::numbers::{put_halves, put_words, put_xwords};
@@ -70,4 +71,37 @@ pub fn locals(symbols: &[ModSymbol]) -> usize
     ensures few { result ≤ length symbols.now }
 {
     symbols.iter().filter(|s| !s.global).count()
+}
+
+// Each of the symbols is local.
+fn are_local(symbols: &[ModSymbol]) -> bool
+    ensures { result ≡ list_all (λ s. not s.global) symbols.now }
+{
+    symbols.iter().all(|s| !s.global)
+}
+
+// The local symbols stand before the others.
+pub fn are_locals_first(symbols: &[ModSymbol]) -> bool
+    ensures { IsTrue result ↔ AreLocalsFirst symbols.now }
+{
+    are_local(&symbols[..locals(symbols)])
+}
+
+// The symbol stands in a section that is there, and its name has no zero byte.
+fn is_symbol(symbol: &ModSymbol) -> bool
+    ensures { IsTrue result ↔ IsSymbol symbol.now }
+{
+    1 <= symbol.section && symbol.section <= 4 && !symbol.name.bytes().contains(&0)
+}
+
+// Each symbol stands in a section that is there, and no name has a zero byte.
+pub fn are_symbols(symbols: &[ModSymbol]) -> bool
+    ensures { IsTrue result ↔ All IsSymbol symbols.now }
+{
+    for symbol in symbols {
+        if !is_symbol(symbol) {
+            return false;
+        }
+    }
+    true
 }

@@ -2,14 +2,15 @@
 ghost use Rattle.std.specs.Prelude.{◌≡◌, ◌<◌, ◌≤◌, ◌+◌, ◌*◌, ◌^◌, ◌++◌, OnOk, IfOk, length};
 ghost use Rattle.std.specs.List.{flat_map};
 ghost use Rattle.elf_write.specs.Layout.{IsInOrder};
-ghost use Rattle.elf_write.specs.Records.{contents, data_memory, if_any, load, null_section, section_back, section_bytes, section_front, symtab_section, sections_of, segment_bytes, segments_of};
+ghost use Rattle.elf_write.specs.Records.{contents, data_memory, if_any, load, null_section, section_back, section_bytes, section_front, symtab_section, segment_bytes};
+ghost use Rattle.elf_write.specs.Written.{sections_in, segments_in};
 
-use crate::constants::{
-    PF_R, PF_W, PF_X, PT_LOAD, SHF_ALLOC, SHF_EXECINSTR, SHF_WRITE, SHT_NOBITS, SHT_NULL,
-    SHT_PROGBITS, SHT_STRTAB, SHT_SYMTAB,
-};
+use crate::constants::{SHF_ALLOC, SHF_EXECINSTR, SHF_WRITE};
 use crate::layout::{Bases, Plan, Sizes};
 use crate::numbers::{put_words, put_xwords};
+use elf_read::constants::{
+    PF_R, PF_W, PF_X, PT_LOAD, SHT_NOBITS, SHT_NULL, SHT_PROGBITS, SHT_STRTAB, SHT_SYMTAB,
+};
 use elf_read::{Section, Segment};
 use std::alloc::Global;
 use wf_outside::Memory;
@@ -123,7 +124,7 @@ pub fn segments(alloc: Global, plan: &Plan) -> Result<Vec<Segment>, Memory>
     requires order { IsInOrder plan.now.sizes plan.now.layout }
     requires short { (plan.now.layout.end < 2 ^ 32) × (plan.now.sizes.bss ≤ 2 ^ 32) }
     requires memory { (plan.now.bases.rwdata ≤ plan.now.bases.bss) × (plan.now.bases.bss < 2 ^ 35) }
-    ensures value { IfOk result (λ segments. segments.items ≡ segments_of plan.now.sizes plan.now.layout plan.now.bases) }
+    ensures value { IfOk result (λ segments. segments.items ≡ segments_in plan.now) }
     ensures few { IfOk result (λ segments. length segments.items ≤ 3) }
 {
     let (sizes, layout, bases) = (&plan.sizes, &plan.layout, &plan.bases);
@@ -200,7 +201,7 @@ fn symtab_section(offset: u64, size: u64, locals: u32) -> Section
 pub fn sections(plan: &Plan, locals: u32) -> [Section; 8]
     requires order { IsInOrder plan.now.sizes plan.now.layout }
     requires few { (plan.now.layout.end < 2 ^ 32) × (locals + 1 < 2 ^ 32) }
-    ensures { result ≡ sections_of plan.now.sizes plan.now.layout plan.now.bases locals }
+    ensures { result ≡ sections_in plan.now locals }
 {
     let (sizes, layout, bases) = (&plan.sizes, &plan.layout, &plan.bases);
     let (text, rodata) = (layout.text as u64, layout.rodata as u64);

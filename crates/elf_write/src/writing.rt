@@ -5,12 +5,12 @@ ghost use Rattle.elf_write.specs.Parts.{strings};
 ghost use Rattle.elf_write.specs.Written.{front_bytes, if_segments, table_bytes, target_bytes, with_contents, with_tables, written, written_by, IsWritable};
 
 use crate::Module;
-use crate::constants::{EM_RISCV, ET_EXEC, EV_CURRENT};
 use crate::layout::{Layout, Plan, bases_for, layout_for, sizes_of};
 use crate::numbers::{place, put_halves, put_words, put_xwords};
 use crate::parts::{locals, strings, symbol_table};
 use crate::records::{put_segments, section_headers, sections, segments};
 use elf_read::Segment;
+use elf_read::constants::{EM_RISCV, ET_EXEC, EV_CURRENT};
 use std::alloc::Global;
 use wf_outside::Memory;
 
@@ -31,7 +31,7 @@ fn put_target(out: &mut Vec<u8>, entry: u64) -> Result<(), Memory>
 {
     out.extend_from_slice(&IDENT)?;
     put_halves(out, &[ET_EXEC, EM_RISCV])?;
-    put_words(out, &[EV_CURRENT])?;
+    put_words(out, &[EV_CURRENT as u32])?;
     put_xwords(out, &[entry])
 }
 
@@ -60,7 +60,9 @@ fn front(alloc: Global, entry: u64, segments: &[Segment], headers: u64) -> Resul
 
 // Adds the contents of the sections.
 fn place_contents(out: &mut Vec<u8>, module: &Module, layout: &Layout) -> Result<(), Memory>
-    requires { (layout.now.text < 2 ^ 64) × (layout.now.rodata < 2 ^ 64) × (layout.now.rwdata < 2 ^ 64) }
+    requires text { layout.now.text < 2 ^ 64 }
+    requires rodata { layout.now.rodata < 2 ^ 64 }
+    requires rwdata { layout.now.rwdata < 2 ^ 64 }
     ensures { OnOk result (out.new.items ≡ with_contents «module».now layout.now out.old.items) }
 {
     place(out, layout.text as usize, &module.text)?;
@@ -76,8 +78,12 @@ fn place_tables(
     names: &[u8],
     headers: &[u8],
 ) -> Result<(), Memory>
-    requires { (layout.now.symtab < 2 ^ 64) × (layout.now.strtab < 2 ^ 64) × (layout.now.shstrtab < 2 ^ 64) × (layout.now.headers < 2 ^ 64) }
-    ensures { OnOk result (out.new.items ≡ with_tables layout.now symbols.now names.now headers.now out.old.items) }
+    requires symtab { layout.now.symtab < 2 ^ 64 }
+    requires strtab { layout.now.strtab < 2 ^ 64 }
+    requires shstrtab { layout.now.shstrtab < 2 ^ 64 }
+    requires headers { layout.now.headers < 2 ^ 64 }
+    ensures { OnOk result
+        (out.new.items ≡ with_tables layout.now symbols.now names.now headers.now out.old.items) }
 {
     place(out, layout.symtab as usize, symbols)?;
     place(out, layout.strtab as usize, names)?;

@@ -1,4 +1,5 @@
--- The image that stands in bytes, or the first rule that they break: of the file format, else of loading.
+-- The image that stands in bytes, or the first rule that they break: of the file format, else of
+-- loading.
 use Rattle.std.specs.Prelude.{ℕ, List, Option, Some, None}
 use Rattle.std.specs.Option.{option_or}
 use Rattle.wf_outside.specs.Images.{ImageValue}
@@ -39,7 +40,8 @@ load_rule None = None
 
 -- the first rule that the bytes break, and its place
 unfoldable pub image_fault : List ℕ → Option (ImageRule × ℕ)
-image_fault bytes = option_or (file_rule (first_fault Exec bytes)) (load_rule (fault_of (elf_of bytes)))
+image_fault bytes =
+    option_or (file_rule (first_fault Exec bytes)) (load_rule (fault_of (elf_of bytes)))
 
 -- an image, where there is no fault
 abbrev pub unless_fault : Option (ImageRule × ℕ) → ImageValue → Option ImageValue

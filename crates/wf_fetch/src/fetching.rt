@@ -14,8 +14,8 @@ use wf_status::{LimitKind, Status};
 /// The most bytes of a file.
 pub const MAX_FILE: u64 = 67_108_864;
 
-/// The bytes of a file, of which there are at most `MAX_FILE`; or Shelf where the read failed, the limit
-/// where the file is longer, and Memory.
+/// The bytes of a file, of which there are at most `MAX_FILE`; or Shelf where the read failed, the
+/// limit where the file is longer, and Memory.
 pub fn fetch<S: Shelf>(shelf: &mut S, name: &[u8]) -> Result<Vec<u8>, Status>
     ensures found { IfOk result
         (λ bytes. IfSome (S.holds shelf.old)

@@ -37,8 +37,8 @@ fn read(alloc: Global, bytes: Vec<u8>) -> Result<Elf, ImageFault>
     }
 }
 
-/// The image in the bytes of a file, of which there are fewer than 2^32, or the first rule that they
-/// break.
+/// The image in the bytes of a file, of which there are fewer than 2^32, or the first rule that
+/// they break.
 pub fn read_image(alloc: Global, bytes: Vec<u8>) -> Result<Image, ImageFault>
     requires { vec_len bytes < 2 ^ 32 }
     ensures ok { IfOk result (λ image. loaded bytes.items ≡ Some image) }

@@ -1,7 +1,7 @@
 -- Bytes of text and of data, and which pages a generation has met.
 use Rattle.std.specs.Prelude.{ℕ, List, Bool, Option, ◌+◌, ◌*◌, ◌/◌, ◌%◌, ◌^◌, is_some, slice_index, slice_set}
 use Rattle.std.specs.Option.{option_map}
-use Rattle.wf_outside.specs.declared.sizes.TheConstants.{PAGE_SIZE}
+use Rattle.wf_outside.specs.declared.sizes.TheConstants.{ADDRESS_PAGES, PAGE_SIZE}
 use Rattle.wf_outside.specs.Pages.{PageValue, page_of}
 use Rattle.wf_flat.specs.State.{PageState}
 use Rattle.wf_flat.specs.Lists.{found_by, inserted_by}
@@ -42,7 +42,7 @@ word_at text at =
 
 -- the number by which what generations have met stands in its table: it rises by generation, and then by page
 abbrev pub met_key : ℕ × ℕ → ℕ
-met_key pair = pair.0 * 2 ^ 26 + pair.1
+met_key pair = pair.0 * ADDRESS_PAGES + pair.1
 
 -- a generation has met a page
 abbrev pub has_met : List (ℕ × ℕ) → ℕ → ℕ → Bool

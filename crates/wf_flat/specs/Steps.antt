@@ -377,7 +377,8 @@ give_back_of s h hart None = s
 give_back_of s h hart (Some access) =
     if holds s h access
     then note_page
-    (change_page s (page_of access.va) (given_back s.limits.last_writes hart.put)) h (page_of access.va)
+    (change_page s (page_of access.va) (given_back s.limits.last_writes hart.put))
+    h (page_of access.va)
     else s
 
 -- the page that a hart, if it is there, holds for its access is given back

@@ -25,8 +25,8 @@ fn add_number(numbers: &mut Vec<u32>, n: u32) -> Result<(), Memory>
     }
 }
 
-/// Adds the places of 512 pages in which the pages of these numbers lie. Where memory runs out, only
-/// the first of them may have been added.
+/// Adds the places of 512 pages in which the pages of these numbers lie. Where memory runs out,
+/// only the first of them may have been added.
 #[tactic(auto, using(crate::proofs::BootLemmas::place_steps))]
 pub fn add_numbers(places: &mut Vec<u32>, numbers: &[u32]) -> Result<(), Memory>
     requires { IsRising places.old.items }
@@ -39,7 +39,8 @@ pub fn add_numbers(places: &mut Vec<u32>, numbers: &[u32]) -> Result<(), Memory>
     Ok(())
 }
 
-/// The frames that so many data pages and a live generation take. It takes memory for the upper nodes.
+/// The frames that so many data pages and a live generation take. It takes memory for the upper
+/// nodes.
 pub fn frames_in(alloc: Global, pages: u64, version: &Gen) -> Result<u64, Memory>
     requires few_pages { pages < 2 ^ 32 }
     requires few_texts { length version.now.text < 2 ^ 32 }

@@ -12,7 +12,7 @@ ghost use Rattle.wf_flat.specs.Ordered.{IsOrdered, page_numbers};
 ghost use Rattle.wf_flat.specs.Steps.{change_page, taken_by, put_with, given_back};
 
 use crate::{Flat, FlatPage};
-use wf_outside::{Memory, PAGE_SIZE};
+use wf_outside::{ADDRESS_PAGES, Memory, PAGE_SIZE};
 
 // The place of the page of a number, in pages by rising number.
 fn place_of(pages: &[FlatPage], number: u64) -> Option<usize>
@@ -88,7 +88,7 @@ impl Flat {
 fn key_of(generation: u32, page: u32) -> u64
     ensures { result ≡ met_key (generation, page) }
 {
-    (generation as u64) * (1 << 26) + page as u64
+    u64::from(generation) * u64::from(ADDRESS_PAGES) + u64::from(page)
 }
 
 // The number of `width` bytes of a page, 1, 2, 4 or 8, from a place on, lowest first.

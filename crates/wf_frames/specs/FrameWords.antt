@@ -6,8 +6,8 @@ use Rattle.wf_frames.specs.declared.fields.FrameWord.{FrameWord}
 abbrev pub bit : Bool → ℕ
 bit b = if b then 1 else 0
 
--- the frame word with these fields: bit 0 says taken, bits 1 to 39 count the writes, bits 40 to 62 are the
--- incarnation, and bit 63 says live
+-- the frame word with these fields: bit 0 says taken, bits 1 to 39 count the writes, bits 40 to 62
+-- are the incarnation, and bit 63 says live
 abbrev pub word_of : FrameWord → ℕ
 word_of f = bit f.taken + f.writes * 2 ^ 1 + f.inc * 2 ^ 40 + bit f.live * 2 ^ 63
 

@@ -4,8 +4,8 @@ use Rattle.wf_frames.specs.declared.state.Frame.{Frame}
 use Rattle.wf_frames.specs.declared.state.FrameState.{FrameState}
 use Rattle.wf_frames.specs.declared.state.FrameState.TheVariants.{Free, InUse, Worn}
 
--- the frames of a machine as clauses see them: each with its state and incarnation, by number, and the
--- incarnation at which a frame that is given back is worn
+-- the frames of a machine as clauses see them: each with its state and incarnation, by number, and
+-- the incarnation at which a frame that is given back is worn
 pub record FramesValue : Type 0 where
   pub frames : List Frame
   pub last_birth : ℕ
@@ -72,4 +72,7 @@ given last_birth f = record f { state = if nat_lt f.incarnation last_birth then 
 
 -- the next incarnation of a frame; the last one stays
 abbrev pub raised : ℕ → Frame → Frame
-raised last_birth f = record f { incarnation = if nat_lt f.incarnation last_birth then suc f.incarnation else f.incarnation }
+raised last_birth f =
+    record f {
+      incarnation = if nat_lt f.incarnation last_birth then suc f.incarnation else f.incarnation;
+    }

@@ -5,7 +5,8 @@ use Rattle.wf_outside.specs.declared.sizes.TheConstants.{MOST_FRAMES}
 use Rattle.wf_frames.specs.declared.state.Frame.{Frame}
 use Rattle.wf_frames.specs.Frames.{free_numbers, places_from}
 
--- the free list has the numbers of the free frames and room for all frames; no incarnation is past the last
+-- the free list has the numbers of the free frames and room for all frames; no incarnation is past
+-- the last
 pub record AreFrames (frames : List Frame) (free : List ℕ) (room last_birth : ℕ) : Type 0 where
   pub free_are : free ≡ free_numbers frames
   pub room_is : length frames ≤ room
@@ -19,5 +20,6 @@ TakesOut old new n = (bs : List Bool) → old ≡ places_from 0 bs → slice_ind
 
 -- to the places of what is true, one comes that is false
 abbrev pub PutsIn : List ℕ → List ℕ → ℕ → Type 0
-PutsIn old new n = (bs : List Bool) → old ≡ places_from 0 bs → n < length bs → slice_index_or bs n false ≡ false
+PutsIn old new n =
+    (bs : List Bool) → old ≡ places_from 0 bs → n < length bs → slice_index_or bs n false ≡ false
     → new ≡ places_from 0 (slice_set bs n true)

@@ -1,4 +1,5 @@
--- Where the words of a machine stand: word 0, then one word for each frame, then the words of each frame.
+-- Where the words of a machine stand: word 0, then one word for each frame, then the words of each
+-- frame.
 use Rattle.std.specs.Prelude.{◌≡◌, ◌+◌, ◌*◌, ◌≤◌, ℕ, List, length, replicate}
 use Rattle.wf_outside.specs.declared.sizes.TheConstants.{PAGE_WORDS, MOST_FRAMES}
 

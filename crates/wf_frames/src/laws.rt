@@ -5,8 +5,8 @@ ghost use Rattle.wf_frames.specs.declared.fields.FrameWord.{FrameWord};
 
 use crate::fields::{ALL_BUT_LIVE, ALL_BUT_TAKEN};
 
-/// One more makes a frame word that isn't taken taken, and one that is taken given back with one more
-/// write; without bit 0 it is given back, and without bit 63 it isn't live. All else stays.
+/// One more makes a frame word that isn't taken taken, and one that is taken given back with one
+/// more write; without bit 0 it is given back, and without bit 63 it isn't live. All else stays.
 pub fn frame_words_change()
     ensures takes { (f : FrameWord) → f.taken ≡ false
         → word_of f + 1 ≡ word_of (record f { taken = true }) }

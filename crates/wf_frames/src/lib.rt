@@ -1,5 +1,5 @@
-//! Words and frames: where each word of a machine stands, the fields of a frame word, and which frames
-//! are free.
+//! Words and frames: where each word of a machine stands, the fields of a frame word, and which
+//! frames are free.
 #![tactic(auto)]
 
 mod fields;

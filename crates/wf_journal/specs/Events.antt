@@ -15,12 +15,16 @@ use Rattle.wf_journal.specs.Fields.{◌>>=◌, word_at, field, ended, one, two, 
 -- a hart's event in a try: its name, and what stands behind the name
 unfoldable pub try_of : List ℕ → List ℕ → Option Event
 try_of name rest =
-    if bytes_eq name (codes "fetch") then option_map (λ x. Fetch x.0 x.1) (two hex64 (wide_hex 8 (2 ^ 32 - 1)) rest)
+    if bytes_eq name (codes "fetch")
+    then option_map (λ x. Fetch x.0 x.1) (two hex64 (wide_hex 8 (2 ^ 32 - 1)) rest)
     else (if bytes_eq name (codes "end") then option_map End (one hex64 rest)
-    else (if bytes_eq name (codes "look") then option_map (λ x. Look x.0 x.1 x.2) (three hex64 decimal8 hex64 rest)
-    else (if bytes_eq name (codes "put") then option_map (λ x. Put x.0 x.1 x.2) (three hex64 decimal8 hex64 rest)
+    else (if bytes_eq name (codes "look")
+    then option_map (λ x. Look x.0 x.1 x.2) (three hex64 decimal8 hex64 rest)
+    else (if bytes_eq name (codes "put")
+    then option_map (λ x. Put x.0 x.1 x.2) (three hex64 decimal8 hex64 rest)
     else (if bytes_eq name (codes "take") then option_map Take (one hex32 rest)
-    else (if bytes_eq name (codes "swap") then option_map (λ x. Swap x.0 x.1 x.2 x.3) (four hex64 decimal8 hex64 hex64 rest)
+    else (if bytes_eq name (codes "swap")
+    then option_map (λ x. Swap x.0 x.1 x.2 x.3) (four hex64 decimal8 hex64 hex64 rest)
     else (if bytes_eq name (codes "miss") then option_map Miss (one hex64 rest)
     else None))))))
 
@@ -28,17 +32,20 @@ try_of name rest =
 unfoldable pub wait_of : List ℕ → List ℕ → Option Event
 wait_of what rest =
     if bytes_eq what (codes "page") then option_map (λ page. Wait (wait.Page page)) (one hex32 rest)
-    else (if bytes_eq what (codes "kernel") then option_map (λ a. Wait (wait.Kernel a)) (one actor_of rest)
+    else (if bytes_eq what (codes "kernel")
+    then option_map (λ a. Wait (wait.Kernel a)) (one actor_of rest)
     else None)
 
 -- how a try ends, or a call: its name, and what stands behind the name
 unfoldable pub step_of : List ℕ → List ℕ → Option Event
 step_of name rest =
     if bytes_eq name (codes "enter") then ended rest Enter
-    else (if bytes_eq name (codes "sync") then option_map (λ x. Sync x.0 x.1) (two decimal32 hex32 rest)
+    else (if bytes_eq name (codes "sync")
+    then option_map (λ x. Sync x.0 x.1) (two decimal32 hex32 rest)
     else (if bytes_eq name (codes "again") then option_map Again (one hex32 rest)
     else (if bytes_eq name (codes "wait") then (word_at rest >>= λ what. wait_of what.0 what.1)
-    else (if bytes_eq name (codes "trap") then option_map (λ x. Trap x.0 x.1) (two decimal8 hex64 rest)
+    else (if bytes_eq name (codes "trap")
+    then option_map (λ x. Trap x.0 x.1) (two decimal8 hex64 rest)
     else (if bytes_eq name (codes "exit") then option_map Exit (one decimal64 rest)
     else (if bytes_eq name (codes "out") then option_map Out (one (wide_hex 2 255) rest)
     else (if bytes_eq name (codes "idle") then ended rest Idle
@@ -47,7 +54,8 @@ step_of name rest =
 -- `worn`, where it stands behind the page
 abbrev pub worn_of : ℕ → Option (List ℕ × List ℕ) → Option Event
 worn_of page None = None
-worn_of page (Some word) = if bytes_eq word.0 (codes "worn") then ended word.1 (Gone page true) else None
+worn_of page (Some word) =
+    if bytes_eq word.0 (codes "worn") then ended word.1 (Gone page true) else None
 
 -- a page that has left
 abbrev pub gone_with : ℕ → List ℕ → Option Event
@@ -60,11 +68,16 @@ gone_of rest = field hex32 rest >>= λ page. gone_with page.0 page.1
 -- a change of pages or of generations: its name, and what stands behind the name
 unfoldable pub change_of : List ℕ → List ℕ → Option Event
 change_of name rest =
-    if bytes_eq name (codes "map") then option_map (λ x. Map x.0 x.1 x.2 x.3) (four hex32 decimal64 right_of (patch_of (codes "z")) rest)
-    else (if bytes_eq name (codes "going") then option_map (λ x. Going x.0 x.1) (two hex32 decimal64 rest)
+    if bytes_eq name (codes "map")
+    then option_map (λ x. Map x.0 x.1 x.2 x.3)
+    (four hex32 decimal64 right_of (patch_of (codes "z")) rest)
+    else (if bytes_eq name (codes "going")
+    then option_map (λ x. Going x.0 x.1) (two hex32 decimal64 rest)
     else (if bytes_eq name (codes "ending") then option_map Ending (one hex32 rest)
     else (if bytes_eq name (codes "gone") then gone_of rest
-    else (if bytes_eq name (codes "born") then option_map (λ x. Born x.0 x.1 x.2) (three decimal32 decimal32 (patch_of (codes "-")) rest)
+    else (if bytes_eq name (codes "born")
+    then option_map (λ x. Born x.0 x.1 x.2)
+    (three decimal32 decimal32 (patch_of (codes "-")) rest)
     else (if bytes_eq name (codes "move") then option_map Move (one decimal32 rest)
     else (if bytes_eq name (codes "dead") then option_map Dead (one decimal32 rest)
     else None))))))
@@ -80,7 +93,8 @@ reason_of name rest =
     else (if bytes_eq name (codes "overlap") then option_map Overlap (one hex32 rest)
     else (if bytes_eq name (codes "absent") then option_map Absent (one hex32 rest)
     else (if bytes_eq name (codes "leaving") then option_map Leaving (one hex32 rest)
-    else (if bytes_eq name (codes "noframes") then option_map (λ x. NoFrames x.0 x.1) (two decimal64 decimal64 rest)
+    else (if bytes_eq name (codes "noframes")
+    then option_map (λ x. NoFrames x.0 x.1) (two decimal64 decimal64 rest)
     else (if bytes_eq name (codes "noview") then option_map NoView (one decimal64 rest)
     else (if bytes_eq name (codes "notempty") then option_map NotEmpty (one decimal8 rest)
     else (if bytes_eq name (codes "inside") then option_map Inside (one hex64 rest)
@@ -92,7 +106,9 @@ reason_of name rest =
 -- a refusal: behind its name the reason
 abbrev pub refused_of : List ℕ → List ℕ → Option Event
 refused_of name rest =
-    if bytes_eq name (codes "refused") then (word_at rest >>= λ why. option_map Refused (reason_of why.0 why.1)) else None
+    if bytes_eq name (codes "refused")
+    then (word_at rest >>= λ why. option_map Refused (reason_of why.0 why.1))
+    else None
 
 abbrev pub or_else : Option Event → Option Event → Option Event
 or_else (Some e) other = Some e
@@ -100,7 +116,9 @@ or_else None other = other
 
 -- an event by its name and what stands behind the name
 unfoldable pub event_of : List ℕ → List ℕ → Option Event
-event_of name rest = or_else (try_of name rest) (or_else (step_of name rest) (or_else (change_of name rest) (refused_of name rest)))
+event_of name rest =
+    or_else (try_of name rest)
+    (or_else (step_of name rest) (or_else (change_of name rest) (refused_of name rest)))
 
 -- an actor of a run with so many harts
 abbrev pub there : ℕ → Actor → Option Actor

@@ -34,14 +34,16 @@ one f rest = do
   ended a.1 a.0
 
 -- two words, and no more
-unfoldable pub two : {A B : Type 0} → (List ℕ → Option A) → (List ℕ → Option B) → List ℕ → Option (A × B)
+unfoldable pub two : {A B : Type 0} → (List ℕ → Option A) → (List ℕ → Option B) → List ℕ
+    → Option (A × B)
 two f g rest = do
   a ← field f rest
   b ← field g a.1
   ended b.1 (a.0, b.0)
 
 -- three words, and no more
-unfoldable pub three : {A B C : Type 0} → (List ℕ → Option A) → (List ℕ → Option B) → (List ℕ → Option C) → List ℕ → Option (A × B × C)
+unfoldable pub three : {A B C : Type 0} → (List ℕ → Option A) → (List ℕ → Option B)
+    → (List ℕ → Option C) → List ℕ → Option (A × B × C)
 three f g h rest = do
   a ← field f rest
   b ← field g a.1
@@ -49,7 +51,8 @@ three f g h rest = do
   ended c.1 (a.0, b.0, c.0)
 
 -- four words, and no more
-unfoldable pub four : {A B C D : Type 0} → (List ℕ → Option A) → (List ℕ → Option B) → (List ℕ → Option C) → (List ℕ → Option D) → List ℕ → Option (A × B × C × D)
+unfoldable pub four : {A B C D : Type 0} → (List ℕ → Option A) → (List ℕ → Option B)
+    → (List ℕ → Option C) → (List ℕ → Option D) → List ℕ → Option (A × B × C × D)
 four f g h i rest = do
   a ← field f rest
   b ← field g a.1
@@ -75,11 +78,14 @@ decimal8 = number_of 10 255
 
 -- a number of so many hexadecimal digits
 unfoldable pub wide_hex : ℕ → ℕ → List ℕ → Option ℕ
-wide_hex width most word = if length word == width then number_from glyph_value 16 most 0 word else None
+wide_hex width most word =
+    if length word == width then number_from glyph_value 16 most 0 word else None
 
 -- a right: `rw`, or `r` alone
 unfoldable pub right_of : List ℕ → Option Bool
-right_of word = if bytes_eq word (codes "rw") then Some true else (if bytes_eq word (codes "r") then Some false else None)
+right_of word =
+    if bytes_eq word (codes "rw") then Some true
+    else (if bytes_eq word (codes "r") then Some false else None)
 
 abbrev pub as_patch : Option ℕ → Option (Option ℕ)
 as_patch None = None

@@ -19,14 +19,16 @@ life_text (Trapped cause value) = codes "trap " ++ decimal cause ++ spaced (hex 
 -- a hart: its generation, its pc, and whether it runs
 unfoldable pub hart_line : ℕ → HartState → List ℕ
 hart_line number hart =
-    codes "= hart " ++ decimal number ++ codes " gen " ++ decimal hart.generation ++ codes " pc " ++ hex hart.arch.pc ++ spaced (life_text hart.life)
+    codes "= hart " ++ decimal number ++ codes " gen " ++ decimal hart.generation ++ codes " pc "
+    ++ hex hart.arch.pc ++ spaced (life_text hart.life)
 
 abbrev pub register_text : ℕ → List ℕ
 register_text value = spaced (hex value)
 
 -- its registers x1 to x31
 unfoldable pub registers_line : ℕ → HartState → List ℕ
-registers_line number hart = codes "= regs " ++ decimal number ++ flat_map register_text (drop 1 hart.arch.x)
+registers_line number hart =
+    codes "= regs " ++ decimal number ++ flat_map register_text (drop 1 hart.arch.x)
 
 -- a hart and its registers
 abbrev pub hart_lines : ℕ → HartState → List (List ℕ)
@@ -49,7 +51,8 @@ live_text false = codes "dead"
 -- a generation: its parent, whether it lives, and how many patches it has
 unfoldable pub gen_line : GenState → List ℕ
 gen_line gen =
-    codes "= gen " ++ decimal gen.number ++ codes " parent " ++ parent_text gen.parent ++ spaced (live_text gen.live) ++ codes " patches " ++ decimal gen.patches
+    codes "= gen " ++ decimal gen.number ++ codes " parent " ++ parent_text gen.parent
+    ++ spaced (live_text gen.live) ++ codes " patches " ++ decimal gen.patches
 
 -- a page that is leaving has a holder still, or none
 abbrev pub holder_text : Option ℕ → List ℕ
@@ -65,7 +68,8 @@ stage_text Ending holder = codes "ending " ++ holder_text holder
 -- a data page: its right, its stage, and how often it was written
 unfoldable pub page_line : PageState → List ℕ
 page_line page =
-    codes "= page " ++ hex page.number ++ spaced (right_text page.write) ++ spaced (stage_text page.stage page.holder) ++ codes " writes " ++ decimal page.writes
+    codes "= page " ++ hex page.number ++ spaced (right_text page.write)
+    ++ spaced (stage_text page.stage page.holder) ++ codes " writes " ++ decimal page.writes
 
 -- the word at an address, where it is not 0
 unfoldable pub word_line : ℕ → ℕ → List (List ℕ)
@@ -78,8 +82,10 @@ word_lines va (word ∷ words) = word_line va word ++ word_lines (va + 8) words
 
 -- a page and, where it was written, its words
 abbrev pub page_lines : PageState → List (List ℕ)
-page_lines page = page_line page ∷ (if page.writes == 0 then [] else word_lines (page.number * 4096) page.words)
+page_lines page =
+    page_line page ∷ (if page.writes == 0 then [] else word_lines (page.number * 4096) page.words)
 
 -- the final lines: harts, generations and data pages, each without its newline
 abbrev pub final_lines : FlatState → List (List ℕ)
-final_lines flat = harts_from 0 flat.harts ++ map gen_line flat.gens ++ flat_map page_lines flat.pages
+final_lines flat =
+    harts_from 0 flat.harts ++ map gen_line flat.gens ++ flat_map page_lines flat.pages

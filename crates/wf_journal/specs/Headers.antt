@@ -29,7 +29,8 @@ patch_lines number (name ∷ names) = patch_line number name ∷ patch_lines (su
 
 -- the first lines of a report
 abbrev pub header_lines : ℕ → ℕ → List (List ℕ) → List (List ℕ)
-header_lines harts frames patches = version_text ∷ harts_text harts ∷ frames_text frames ∷ patch_lines 0 patches
+header_lines harts frames patches =
+    version_text ∷ harts_text harts ∷ frames_text frames ∷ patch_lines 0 patches
 
 -- lines as bytes
 abbrev pub joined : List (List ℕ) → List ℕ

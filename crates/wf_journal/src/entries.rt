@@ -1,10 +1,8 @@
 //! The text of a journal's entry.
-ghost use Rattle.std.specs.Prelude.{◌≡◌, ◌++◌, OnOk, IfOk, codes};
-ghost use Rattle.std.specs.Fmt.{decimal};
-ghost use Rattle.wf_text.specs.Numbers.{hex, last_hex};
-ghost use Rattle.wf_journal.specs.Entries.{spaced, right_text, patch_text, wait_text, refusal_text, event_text, entry_bytes};
+ghost use Rattle.std.specs.Prelude.{◌≡◌, ◌++◌, OnOk, IfOk};
+ghost use Rattle.wf_journal.specs.Entries.{access_text, range_text, fetch_text, swap_text, map_text, born_text, frames_refusal, wait_text, refusal_text, event_text, entry_bytes};
 ghost use Rattle.wf_journal.specs.Headers.{line};
-ghost use Rattle.wf_flat.specs.declared.event.Event.TheVariants.{Gone};
+ghost use Rattle.wf_flat.specs.declared.event.Event.TheVariants.{Gone, Out};
 
 use crate::fields::{
     name_actor, name_decimal, name_decimal_hex, name_hex, push_actor, push_patch, push_right,
@@ -16,7 +14,7 @@ use wf_outside::{Memory, Refusal, Text};
 
 // An access: its address, its width and its value.
 fn push_access(out: &mut Vec<u8>, name: &[u8], va: u64, width: u8, value: u64) -> Result<(), Memory>
-    ensures { OnOk result (out.new.items ≡ out.old.items ++ name.now ++ spaced (hex va) ++ spaced (decimal width) ++ spaced (hex value)) }
+    ensures { OnOk result (out.new.items ≡ out.old.items ++ access_text name.now va width value) }
 {
     out.extend_from_slice(name)?;
     spaced_hex(out, va)?;
@@ -26,7 +24,7 @@ fn push_access(out: &mut Vec<u8>, name: &[u8], va: u64, width: u8, value: u64) -
 
 // Pages from one on: where they begin and how many they are.
 fn push_range(out: &mut Vec<u8>, name: &[u8], page: u32, n: u64) -> Result<(), Memory>
-    ensures { OnOk result (out.new.items ≡ out.old.items ++ name.now ++ spaced (hex page) ++ spaced (decimal n)) }
+    ensures { OnOk result (out.new.items ≡ out.old.items ++ range_text name.now page n) }
 {
     out.extend_from_slice(name)?;
     spaced_hex(out, u64::from(page))?;
@@ -35,7 +33,7 @@ fn push_range(out: &mut Vec<u8>, name: &[u8], page: u32, n: u64) -> Result<(), M
 
 // A fetch: the pc and the word.
 fn push_fetch(out: &mut Vec<u8>, pc: u64, word: u32) -> Result<(), Memory>
-    ensures { OnOk result (out.new.items ≡ out.old.items ++ codes "fetch" ++ spaced (hex pc) ++ spaced (last_hex 8 word)) }
+    ensures { OnOk result (out.new.items ≡ out.old.items ++ fetch_text pc word) }
 {
     out.extend_from_slice(b"fetch")?;
     spaced_hex(out, pc)?;
@@ -43,8 +41,9 @@ fn push_fetch(out: &mut Vec<u8>, pc: u64, word: u32) -> Result<(), Memory>
 }
 
 // A byte that was put.
+#[tactic(auto, unfolding(crate::specs::Entries::event_text))]
 fn push_out(out: &mut Vec<u8>, byte: u8) -> Result<(), Memory>
-    ensures { OnOk result (out.new.items ≡ out.old.items ++ codes "out" ++ spaced (last_hex 2 byte)) }
+    ensures { OnOk result (out.new.items ≡ out.old.items ++ event_text (Out byte)) }
 {
     out.extend_from_slice(b"out")?;
     spaced_last_hex(out, 2, u64::from(byte))
@@ -58,7 +57,7 @@ fn push_map(
     write: bool,
     patch: Option<u32>,
 ) -> Result<(), Memory>
-    ensures { OnOk result (out.new.items ≡ out.old.items ++ codes "map" ++ spaced (hex page) ++ spaced (decimal n) ++ spaced (right_text write) ++ spaced (patch_text (codes "z") patch)) }
+    ensures { OnOk result (out.new.items ≡ out.old.items ++ map_text page n write patch) }
 {
     push_range(out, b"map", page, n)?;
     out.push(b' ')?;
@@ -74,7 +73,7 @@ fn push_born(
     parent: u32,
     patch: Option<u32>,
 ) -> Result<(), Memory>
-    ensures { OnOk result (out.new.items ≡ out.old.items ++ codes "born" ++ spaced (decimal generation) ++ spaced (decimal parent) ++ spaced (patch_text (codes "-") patch)) }
+    ensures { OnOk result (out.new.items ≡ out.old.items ++ born_text generation parent patch) }
 {
     name_decimal(out, b"born", u64::from(generation))?;
     spaced_decimal(out, u64::from(parent))?;
@@ -107,7 +106,7 @@ fn push_wait(out: &mut Vec<u8>, on: WaitFor) -> Result<(), Memory>
 
 // Too few frames: how many are needed, and how many are free.
 fn push_frames(out: &mut Vec<u8>, need: u64, free: u64) -> Result<(), Memory>
-    ensures { OnOk result (out.new.items ≡ out.old.items ++ codes "refused noframes" ++ spaced (decimal need) ++ spaced (decimal free)) }
+    ensures { OnOk result (out.new.items ≡ out.old.items ++ frames_refusal need free) }
 {
     name_decimal(out, b"refused noframes", need)?;
     spaced_decimal(out, free)
@@ -135,7 +134,7 @@ fn push_refusal(out: &mut Vec<u8>, reason: Refusal) -> Result<(), Memory>
 
 // An exchange: its address and width, and both values.
 fn push_swap(out: &mut Vec<u8>, va: u64, width: u8, old: u64, new: u64) -> Result<(), Memory>
-    ensures { OnOk result (out.new.items ≡ out.old.items ++ codes "swap" ++ spaced (hex va) ++ spaced (decimal width) ++ spaced (hex old) ++ spaced (hex new)) }
+    ensures { OnOk result (out.new.items ≡ out.old.items ++ swap_text va width old new) }
 {
     push_access(out, b"swap", va, width, old)?;
     spaced_hex(out, new)

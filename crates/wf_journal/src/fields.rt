@@ -2,7 +2,7 @@
 ghost use Rattle.std.specs.Prelude.{◌≡◌, ◌++◌, ◌≤◌, OnOk, codes};
 ghost use Rattle.std.specs.Fmt.{decimal};
 ghost use Rattle.wf_text.specs.Numbers.{hex, last_hex};
-ghost use Rattle.wf_journal.specs.Entries.{spaced, actor_text, right_text, patch_text};
+ghost use Rattle.wf_journal.specs.Entries.{spaced, actor_text, right_text, patch_text, numbers_text};
 ghost use Rattle.wf_journal.specs.Headers.{line};
 
 use wf_flat::Actor;
@@ -96,7 +96,7 @@ pub fn name_decimal(out: &mut Vec<u8>, name: &[u8], n: u64) -> Result<(), Memory
 
 /// Appends a name, a number in decimal and one in hexadecimal, each behind a space.
 pub fn name_decimal_hex(out: &mut Vec<u8>, name: &[u8], m: u64, n: u64) -> Result<(), Memory>
-    ensures { OnOk result (out.new.items ≡ out.old.items ++ name.now ++ spaced (decimal m) ++ spaced (hex n)) }
+    ensures { OnOk result (out.new.items ≡ out.old.items ++ numbers_text name.now m n) }
 {
     out.extend_from_slice(name)?;
     spaced_decimal(out, m)?;

@@ -248,8 +248,8 @@ fn append_pages(alloc: Global, lines: &mut Vec<Text>, pages: &[FlatPage]) -> Res
     Ok(())
 }
 
-/// The final lines of a state, each without its newline: harts with their registers, generations, and
-/// data pages with the words that are not 0 of those that were written.
+/// The final lines of a state, each without its newline: harts with their registers, generations,
+/// and data pages with the words that are not 0 of those that were written.
 pub fn final_text(alloc: Global, end: &Flat) -> Result<Vec<Text>, Memory>
     ensures { IfOk result (λ lines. lines.items ≡ final_lines end.now) }
 {

@@ -8,7 +8,9 @@ use wf_text::push_decimal;
 
 // The first three lines.
 fn push_sizes(out: &mut Vec<u8>, harts: u64, frames: u32) -> Result<(), Memory>
-    ensures { OnOk result (out.new.items ≡ out.old.items ++ line version_text ++ line (harts_text harts) ++ line (frames_text frames)) }
+    ensures { OnOk result
+        (out.new.items ≡ out.old.items ++ line version_text ++ line (harts_text harts)
+        ++ line (frames_text frames)) }
 {
     out.extend_from_slice(b"wfpatch run 1\n")?;
     push_number_line(out, b"harts ", harts)?;

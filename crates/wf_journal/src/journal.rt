@@ -27,7 +27,13 @@ impl Model for Journal {
 
     ghost Value = { JournalValue };
 
-    ghost view = { λ j. record { harts = j.harts; frames = j.frames; patches = j.patches.items; entries = j.entries.items; end = j.end.items } };
+    ghost view = { λ j. record {
+      harts = j.harts;
+      frames = j.frames;
+      patches = j.patches.items;
+      entries = j.entries.items;
+      end = j.end.items;
+    } };
 }
 
 /// Why a journal was not read.
@@ -90,7 +96,8 @@ fn size_of(line: &[u8], name: &[u8], least: u64, most: u64) -> Option<u64>
 // The first line, which names the format.
 #[tactic(auto, unfolding(crate::specs::Journals::line_at), using(crate::proofs::JournalLemmas::line_steps))]
 fn version_line(bytes: &[u8]) -> Result<&[u8], u64>
-    ensures { Found (λ rest. (1, lines_of rest.now)) result (line_at 1 version_of (lines_of bytes.now)) }
+    ensures { Found (λ rest. (1, lines_of rest.now)) result
+        (line_at 1 version_of (lines_of bytes.now)) }
 {
     if bytes.is_empty() {
         return Err(1);
@@ -111,7 +118,8 @@ fn size_line<'a>(
     least: u64,
     most: u64,
 ) -> Result<(u64, &'a [u8]), u64>
-    ensures value { Found (λ x. (x.0, lines_of x.1.now)) result (line_at number (size_of name.now least most) (lines_of bytes.now)) }
+    ensures value { Found (λ x. (x.0, lines_of x.1.now)) result
+        (line_at number (size_of name.now least most) (lines_of bytes.now)) }
     ensures few { IfOk result (λ x. x.0 ≤ most) }
 {
     if bytes.is_empty() {

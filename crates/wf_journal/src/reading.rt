@@ -10,8 +10,8 @@ use std::alloc::Global;
 use wf_outside::{Memory, Text};
 use wf_text::split_line;
 
-// Adds what a line says, where it may stand there: whether an entry, a listing or a final line is among
-// the lines now, or none where the line may not stand there.
+// Adds what a line says, where it may stand there: whether an entry, a listing or a final line is
+// among the lines now, or none where the line may not stand there.
 #[tactic(auto, unfolding(crate::specs::Journals::with_line))]
 fn push_line(
     alloc: Global,
@@ -19,7 +19,9 @@ fn push_line(
     body: bool,
     line: &[u8],
 ) -> Result<Option<bool>, Memory>
-    ensures { IfOk result (λ next. MatchOption next (with_line (so_far journal.old body) line.now ≡ None) (λ now. with_line (so_far journal.old body) line.now ≡ Some (so_far journal.new now))) }
+    ensures { IfOk result (λ next. MatchOption next
+        (with_line (so_far journal.old body) line.now ≡ None)
+        (λ now. with_line (so_far journal.old body) line.now ≡ Some (so_far journal.new now))) }
 {
     if line.starts_with(b"= ") {
         journal.end.push(Text::of(alloc, line)?)?;
@@ -73,11 +75,12 @@ fn read_lines(alloc: Global, harts: u8, frames: u32, bytes: &[u8]) -> Result<Jou
     Ok(journal)
 }
 
-/// The journal of these bytes, or its fault. The time is in proportion to the bytes, the memory to the
-/// entries, names and final lines; an entry takes no allocation of its own.
+/// The journal of these bytes, or its fault. The time is in proportion to the bytes, the memory to
+/// the entries, names and final lines; an entry takes no allocation of its own.
 #[tactic(auto, unfolding(crate::specs::Journals::journal_of))]
 pub fn read_journal(alloc: Global, bytes: &[u8]) -> Result<Journal, JournalFault>
-    // What is read is the journal of the bytes, and a fault is that of the bytes, unless memory ran out.
+    // What is read is the journal of the bytes, and a fault is that of the bytes, unless memory ran
+    // out.
     ensures read { Reads result (journal_of bytes.now) }
 {
     match sizes_of(bytes) {

@@ -10,8 +10,8 @@ use std::alloc::Global;
 use wf_flat::{Entry, Flat};
 use wf_outside::Memory;
 
-// The lines of the journal.
-fn push_entries(out: &mut Vec<u8>, journal: &[Entry]) -> Result<(), Memory>
+/// Appends the lines of entries, each with its newline.
+pub fn push_entries(out: &mut Vec<u8>, journal: &[Entry]) -> Result<(), Memory>
     ensures { OnOk result (out.new.items ≡ out.old.items ++ flat_map entry_line journal.now) }
 {
     for entry in journal {
@@ -20,8 +20,8 @@ fn push_entries(out: &mut Vec<u8>, journal: &[Entry]) -> Result<(), Memory>
     Ok(())
 }
 
-/// The report of a run without patches and listings: the first lines, the journal, and the final lines
-/// of the state at its end.
+/// The report of a run without patches and listings: the first lines, the journal, and the final
+/// lines of the state at its end.
 pub fn report(alloc: Global, journal: &[Entry], flat: &Flat) -> Result<Vec<u8>, Memory>
     ensures { IfOk result (λ bytes. bytes.items ≡ report_bytes journal.now flat.now) }
 {

@@ -22,8 +22,8 @@ use Rattle.wf_flat.specs.Boot.{boot_of}
 abbrev pub IsOwn : ℕ → PageState → Type 0
 IsOwn h page = (page.stage ≢ Going) × ((page.holder ≡ None) ⊎ (page.holder ≡ Some h))
 
--- The hart is between tries; or no page has moved since its fetch, no other hart holds a page, and none is
--- Going.
+-- The hart is between tries; or no page has moved since its fetch, no other hart holds a page, and
+-- none is Going.
 abbrev pub IsUndisturbed : FlatState → ℕ → HartState → Type 0
 IsUndisturbed s h hart =
     (hart.fetched ≡ None) ⊎ ((hart.moved ≡ []) × AllByRecursion (IsOwn h) s.pages)
@@ -41,8 +41,8 @@ UnbuiltHasNoUnit =
     (s : FlatState) (h pc : ℕ) (unit : List Entry) → s.inside ≡ None → IsUnbuilt s h pc
     → IsUnit h unit → IsLegal (at_rest s) unit → ⊥
 
--- Each fetch of a hart in a legal journal gives the four bytes at its pc of the text that the hart's
--- generation had at the start.
+-- Each fetch of a hart in a legal journal gives the four bytes at its pc of the text that the
+-- hart's generation had at the start.
 abbrev pub FetchesAreText : Type 0
 FetchesAreText =
     (s : FlatState) (front back : List Entry) (h pc word : ℕ)
@@ -102,8 +102,8 @@ latest_byte at byte (entry ∷ entries) = latest_byte at (byte_after at byte ent
 abbrev pub HasWholePages : FlatState → Type 0
 HasWholePages s = AllByRecursion (λ page. length page.words ≡ PAGE_WORDS) s.pages
 
--- What a hart reads of data has so many bytes, and each is the latest that a Put or a Swap wrote there, and where none
--- did, the byte there at the start.
+-- What a hart reads of data has so many bytes, and each is the latest that a Put or a Swap wrote
+-- there, and where none did, the byte there at the start.
 abbrev pub LooksAreLatest : Type 0
 LooksAreLatest =
     (s : FlatState) (front back : List Entry) (h va width value : ℕ) → HasWholePages s
@@ -113,8 +113,8 @@ LooksAreLatest =
     × ((i : ℕ) → i < width
     → byte_of value i ≡ latest_byte (va + i) (data_byte s (va + i)) front)
 
--- What an atomic memory operation reads has so many bytes, and each is the latest that a Put or a Swap wrote there, and
--- where none did, the byte there at the start.
+-- What an atomic memory operation reads has so many bytes, and each is the latest that a Put or a
+-- Swap wrote there, and where none did, the byte there at the start.
 abbrev pub SwapsAreLatest : Type 0
 SwapsAreLatest =
     (s : FlatState) (front back : List Entry) (h va width old new : ℕ) → HasWholePages s
@@ -149,8 +149,8 @@ HasNoReserve m h (entry ∷ entries) =
     → IsReserving m h → ⊥)
     × HasNoReserve (after m entry.actor entry.event) h entries
 
--- Where a store-conditional of a hart writes, the hart's latest load-reserved read as many bytes at the same address,
--- and no entry between the two writes in their page.
+-- Where a store-conditional of a hart writes, the hart's latest load-reserved read as many bytes at
+-- the same address, and no entry between the two writes in their page.
 abbrev pub ConditionalsAreAlone : Type 0
 ConditionalsAreAlone =
     (s : FlatState) (front middle back : List Entry) (h va width value va' width' value' : ℕ) →
@@ -176,7 +176,8 @@ pub record HasReserved (m : Moment) (h va width : ℕ) (entries : List Entry) : 
   pub reserving : IsReserving (end_of m front) h
   pub latest : HasNoReserve (after (end_of m front) (Hart h) (Look va width value)) h back
 
--- A store-conditional that writes follows a load-reserved of its hart of the same address and width.
+-- A store-conditional that writes follows a load-reserved of its hart of the same address and
+-- width.
 abbrev pub ConditionalsFollow : Type 0
 ConditionalsFollow =
     (s : FlatState) (front back : List Entry) (h va width value : ℕ) → HoldsNone s
@@ -184,8 +185,8 @@ ConditionalsFollow =
     → IsLegal (at_rest s) (front ++ record { actor = Hart h; event = Put va width value } ∷ back)
     → IsConditional (end_of (at_rest s) front) h → HasReserved (at_rest s) h va width front
 
--- At the start of every run of an image whose pages of data have 512 words each, as all have, nobody holds a page, no
--- hart has a reservation, and each page of data has its 512 words.
+-- At the start of every run of an image whose pages of data have 512 words each, as all have,
+-- nobody holds a page, no hart has a reservation, and each page of data has its 512 words.
 abbrev pub StartsAreQuiet : Type 0
 StartsAreQuiet =
     (image : ImageValue) (harts : ℕ) (limits : LimitsValue)

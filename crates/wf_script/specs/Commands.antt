@@ -6,7 +6,8 @@ use Rattle.wf_flat.specs.declared.event.Actor.TheVariants as actor
 use Rattle.wf_script.specs.declared.command.Command.{Command}
 use Rattle.wf_script.specs.declared.command.Command.TheVariants.{Step, Tick, Run, Patch, Create, Delete, Tables, Regs, Mem}
 
--- a script, without where it lies in memory: its commands, the line of each, and the names of its patches in the order of their lines
+-- a script, without where it lies in memory: its commands, the line of each, and the names of its
+-- patches in the order of their lines
 pub record ScriptValue : Type 0 where
   pub commands : List Command
   pub lines : List ℕ

@@ -1,5 +1,6 @@
--- The lines of a script: words that are parted by spaces, which may also stand before the first and behind
--- the last. Lines without a word, and lines whose first word begins with `#`, are passed over.
+-- The lines of a script: words that are parted by spaces, which may also stand before the first and
+-- behind the last. Lines without a word, and lines whose first word begins with `#`, are passed
+-- over.
 use Rattle.std.specs.Prelude.{◌≡◌, ℕ, suc, List, [], ◌∷◌, ◌++◌, ◌+◌, ◌-◌, ◌^◌, ◌==◌, ◌||◌, Bool, true, false, nat_lt, min, Option, Some, None, Result, Ok, Err, length, slice_index, sum_by, if◌then◌else◌}
 use Rattle.wf_text.specs.Lines.{lines_of, before, from, unspaced, name_of}
 use Rattle.wf_script.specs.declared.command.Command.{Command}
@@ -16,15 +17,18 @@ abbrev pub ◌>>=◌ : {A B E : Type 0} → Result A E → (A → Result B E) �
 (Ok x) >>= f = f x
 (Err e) >>= f = Err e
 
--- A value with what stands behind its word, or how many bytes of the line are left from that word on.
+-- A value with what stands behind its word, or how many bytes of the line are left from that word
+-- on.
 abbrev pub or_left : {A : Type 0} → ℕ → List ℕ → Option A → Result (A × List ℕ) ℕ
 or_left left behind None = Err left
 or_left left behind (Some x) = Ok (x, behind)
 
--- What the next word is the text of, with what stands behind it. Where it is no such text, or no word is
--- left, the fault is told by the number of bytes of the line from there on.
+-- What the next word is the text of, with what stands behind it. Where it is no such text, or no
+-- word is left, the fault is told by the number of bytes of the line from there on.
 unfoldable pub next : {A : Type 0} → (List ℕ → Option A) → List ℕ → Result (A × List ℕ) ℕ
-next value_of rest = or_left (length (unspaced rest)) (from 32 (unspaced rest)) (value_of (before 32 (unspaced rest)))
+next value_of rest =
+    or_left (length (unspaced rest)) (from 32 (unspaced rest))
+    (value_of (before 32 (unspaced rest)))
 
 -- what a reader of a line answers, seen by view
 abbrev pub Found : {X Y : Type 0} → (X → Y) → Result X ℕ → Result Y ℕ → Type 0
@@ -101,9 +105,12 @@ arguments_in harts index Mem rest = mem_in rest
 
 -- a command and its name, where no word is left
 abbrev pub ended : Command × List ℕ × List ℕ → Result (Command × List ℕ) ℕ
-ended found = if length (unspaced found.2) == 0 then Ok (found.0, found.1) else Err (length (unspaced found.2))
+ended found =
+    if length (unspaced found.2) == 0 then Ok (found.0, found.1)
+    else Err (length (unspaced found.2))
 
--- The command of a line, in a run with so many harts and behind so many patches, with the name of its patch.
+-- The command of a line, in a run with so many harts and behind so many patches, with the name of
+-- its patch.
 unfoldable pub command_in : ℕ → ℕ → List ℕ → Result (Command × List ℕ) ℕ
 command_in harts index line = do
   verb ← next verb_of line
@@ -134,9 +141,10 @@ with_command script number found = record {
   patches = names_with found.0 found.1 script.patches;
 }
 
--- A script with one more line, or the place of its first wrong word: columns count from 1, and where a word
--- is missing the column is one past the line's end.
-abbrev pub with_found : ScriptValue → ℕ → List ℕ → Result (Command × List ℕ) ℕ → Result ScriptValue ScriptFault
+-- A script with one more line, or the place of its first wrong word: columns count from 1, and
+-- where a word is missing the column is one past the line's end.
+abbrev pub with_found : ScriptValue → ℕ → List ℕ → Result (Command × List ℕ) ℕ
+    → Result ScriptValue ScriptFault
 with_found script number line (Ok found) = Ok (with_command script number found)
 with_found script number line (Err left) = Err (At number (length line + 1 - left))
 
@@ -144,7 +152,8 @@ with_found script number line (Err left) = Err (At number (length line + 1 - lef
 unfoldable pub with_line : ℕ → ScriptValue → ℕ → List ℕ → Result ScriptValue ScriptFault
 with_line harts script number line =
     if is_passed line then Ok script
-    else with_found script number line (command_in harts (min (length script.patches) (2 ^ 32 - 1)) line)
+    else with_found script number line
+    (command_in harts (min (length script.patches) (2 ^ 32 - 1)) line)
 
 -- lines from this number on, behind the script before them
 unfoldable pub with_lines : ℕ → ScriptValue → ℕ → List (List ℕ) → Result ScriptValue ScriptFault
@@ -163,12 +172,13 @@ told n = min n (2 ^ 64 - 1)
 -- a script within the limits: first that of units, then that of patches
 unfoldable pub within_limits : ScriptValue → Result ScriptValue ScriptFault
 within_limits script =
-    if nat_lt 1000000 (sum_by units_of script.commands) then Err (Units (told (sum_by units_of script.commands)))
+    if nat_lt 1000000 (sum_by units_of script.commands)
+    then Err (Units (told (sum_by units_of script.commands)))
     else (if nat_lt 64 (length script.patches) then Err (Patches (length script.patches))
     else Ok script)
 
--- The script of a text, in a run with so many harts, or its first fault: that of its first wrong word, and
--- where all lines are those of a script, that of a limit.
+-- The script of a text, in a run with so many harts, or its first fault: that of its first wrong
+-- word, and where all lines are those of a script, that of a limit.
 unfoldable pub script_of : ℕ → List ℕ → Result ScriptValue ScriptFault
 script_of harts bytes = do
   script ← with_lines harts empty 1 (lines_of bytes)

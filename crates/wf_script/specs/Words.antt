@@ -32,7 +32,8 @@ below limit (Some n) = if nat_lt n limit then Some n else None
 
 -- a hart of the run: `h` and its number
 unfoldable pub hart_of : ℕ → List ℕ → Option ℕ
-hart_of harts word = if slice_index word 0 == 104 then below harts (number_of 10 255 (drop 1 word)) else None
+hart_of harts word =
+    if slice_index word 0 == 104 then below harts (number_of 10 255 (drop 1 word)) else None
 
 abbrev pub hart_actor : Option ℕ → Option Actor
 hart_actor None = None
@@ -40,7 +41,8 @@ hart_actor (Some h) = Some (actor.Hart h)
 
 -- an actor: a hart of the run, or `k`
 unfoldable pub actor_of : ℕ → List ℕ → Option Actor
-actor_of harts word = if bytes_eq word (codes "k") then Some actor.Kernel else hart_actor (hart_of harts word)
+actor_of harts word =
+    if bytes_eq word (codes "k") then Some actor.Kernel else hart_actor (hart_of harts word)
 
 abbrev pub positive : Option ℕ → Option ℕ
 positive None = None
@@ -61,4 +63,6 @@ aligned (Some va) = if va % 8 == 0 then Some va else None
 
 -- an address of a doubleword below 2 ^ 38: `0x` and hexadecimal digits
 unfoldable pub address_of : List ℕ → Option ℕ
-address_of word = if slice_index word 0 == 48 && slice_index word 1 == 120 then aligned (any_hex (2 ^ 38 - 1) (drop 2 word)) else None
+address_of word =
+    if slice_index word 0 == 48 && slice_index word 1 == 120
+    then aligned (any_hex (2 ^ 38 - 1) (drop 2 word)) else None

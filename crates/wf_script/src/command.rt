@@ -4,8 +4,8 @@ use std::marker::Model;
 use wf_flat::Actor;
 use wf_outside::Text;
 
-/// A command of a script. Counts are from 1 to 1,000,000, in `Mem` to 4,096; generations are from 0 to
-/// 1,023.
+/// A command of a script. Counts are from 1 to 1,000,000, in `Mem` to 4,096; generations are from 0
+/// to 1,023.
 #[derive(Clone, Copy, Debug, PartialEq, Eq)]
 pub enum Command {
     /// So many times: the hart goes on until its try ends, it stops, waits or is idle.
@@ -14,8 +14,8 @@ pub enum Command {
     Tick { actor: Actor, n: u64 },
     /// So many times: the next running hart, in turn, goes on as with `Step`.
     Run { n: u64 },
-    /// The patch of this number comes in, in one call of the kernel's own actor; or, where it is begun,
-    /// the call stands ready for ticks.
+    /// The patch of this number comes in, in one call of the kernel's own actor; or, where it is
+    /// begun, the call stands ready for ticks.
     Patch { index: u32, begin: bool },
     /// The kernel's own actor clones the generation.
     Create { generation: u32 },
@@ -29,8 +29,8 @@ pub enum Command {
     Mem { va: u64, n: u64 },
 }
 
-/// A script: its commands in order, beside them the line of each, counted from 1, and the names of its
-/// patches by their numbers.
+/// A script: its commands in order, beside them the line of each, counted from 1, and the names of
+/// its patches by their numbers.
 #[derive(Drop)]
 pub struct Script {
     pub commands: Vec<Command>,
@@ -43,7 +43,11 @@ impl Model for Script {
 
     ghost Value = { ScriptValue };
 
-    ghost view = { λ s. record { commands = s.commands.items; lines = s.lines.items; patches = s.patches.items } };
+    ghost view = { λ s. record {
+      commands = s.commands.items;
+      lines = s.lines.items;
+      patches = s.patches.items;
+    } };
 }
 
 /// Why a script was not read.
@@ -52,7 +56,8 @@ pub enum ScriptFault {
     /// The first wrong word, or one past the line's end where a word is missing. Lines and columns
     /// count from 1, columns by bytes.
     At { line: u64, column: u64 },
-    /// All commands together count for so many units, above 1,000,000; no more than 2 ^ 64 - 1 is told.
+    /// All commands together count for so many units, above 1,000,000; no more than 2 ^ 64 - 1 is
+    /// told.
     Units { number: u64 },
     /// There are so many patches, above 64.
     Patches { number: u64 },

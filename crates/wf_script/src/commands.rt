@@ -231,8 +231,8 @@ fn arguments_in(rest: &[u8], verb: Verb, harts: u8, index: u32) -> Result<Named<
     }
 }
 
-/// The command of a line, in a run with so many harts and behind so many patches, with the name of its
-/// patch; or how many bytes of the line are left from the first wrong word on.
+/// The command of a line, in a run with so many harts and behind so many patches, with the name of
+/// its patch; or how many bytes of the line are left from the first wrong word on.
 #[tactic(auto, unfolding(crate::specs::Reading::command_in))]
 pub fn command_in(line: &[u8], harts: u8, index: u32) -> Result<(Command, &[u8]), usize>
     ensures value { Found (λ x. (x.0, x.1.now)) result (command_in harts index line.now) }

@@ -96,7 +96,8 @@ fn push_line(
     harts: u8,
 ) -> Result<(), ScriptFault>
     ensures ok { OnOk result (with_line harts script.old number line.now ≡ Ok script.new) }
-    ensures err { IfErr result (λ fault. IsFaultOf fault (with_line harts script.old number line.now)) }
+    ensures err { IfErr result
+        (λ fault. IsFaultOf fault (with_line harts script.old number line.now)) }
 {
     if is_passed(line) {
         return Ok(());
@@ -136,12 +137,13 @@ fn read_lines(alloc: Global, bytes: &[u8], harts: u8) -> Result<Script, ScriptFa
     Ok(script)
 }
 
-/// The script of these bytes, for a run with so many harts, or its first fault: that of its first wrong
-/// word; and where all lines are those of a script, that of the limit of units, then that of patches.
-/// The time is in proportion to the bytes, the memory to the commands and names.
+/// The script of these bytes, for a run with so many harts, or its first fault: that of its first
+/// wrong word; and where all lines are those of a script, that of the limit of units, then that of
+/// patches. The time is in proportion to the bytes, the memory to the commands and names.
 #[tactic(auto, using(crate::proofs::LineLemmas::whole_steps))]
 pub fn read_script(alloc: Global, bytes: &[u8], harts: u8) -> Result<Script, ScriptFault>
-    // What is read is the script of the bytes, and a fault is that of the bytes, unless memory ran out.
+    // What is read is the script of the bytes, and a fault is that of the bytes, unless memory ran
+    // out.
     ensures read { Reads result (script_of harts bytes.now) }
     // What each script keeps.
     ensures kept { IfOk result (λ script. IsScript harts script) }

@@ -2,19 +2,22 @@
 use Rattle.std.specs.Prelude.{◌++◌, ℕ, List, [], false, codes}
 use Rattle.std.specs.Fmt.{decimal, digits}
 use Rattle.wf_status.specs.declared.status.Status.{Status}
-use Rattle.wf_status.specs.declared.status.Status.TheVariants.{Done, Words, Image, Shelf, Sink, Memory, Limit, Unbuilt}
+use Rattle.wf_status.specs.declared.status.Status.TheVariants.{Done, Words, Image, Source, Shelf, Sink, Memory, Limit, Unbuilt}
 use Rattle.wf_status.specs.declared.status.LimitKind.{LimitKind}
 use Rattle.wf_status.specs.declared.status.LimitKind.TheVariants.{File, Frames}
 use Rattle.wf_status.specs.declared.status.Unbuilt.{Unbuilt as UnbuiltPart}
 use Rattle.wf_status.specs.declared.status.Unbuilt.TheVariants.{Script, Journal, Step}
 use Rattle.wf_status.specs.declared.rules.ImageRule.{ImageRule}
+use Rattle.wf_status.specs.declared.sources.SourceRule.{SourceRule}
+use Rattle.wf_status.specs.declared.sources.SourceRule.TheVariants as source
 use Rattle.wf_status.specs.declared.rules.ImageRule.TheVariants.{Short, Magic, Class, Order, Kind, Machine, Flags, Table, Range, Strings, TlsSegment, Interp, Dynamic, WriteAndRun, HighAddress, TooLarge, SharedPage, NoEntry}
 
--- the exit status of each end of a run
+-- the exit status of each end of a command
 abbrev pub code_of : Status → ℕ
 code_of Done = 0
 code_of Words = 1
 code_of (Image rule at) = 2
+code_of (Source rule line) = 4
 code_of Shelf = 5
 code_of Sink = 6
 code_of Memory = 7
@@ -53,11 +56,20 @@ rule_text TooLarge = codes "toolarge"
 rule_text SharedPage = codes "sharedpage"
 rule_text NoEntry = codes "noentry"
 
+-- the word for a rule of sources
+abbrev pub source_text : SourceRule → List ℕ
+source_text source.Syntax = codes "syntax"
+source_text source.Twice = codes "twice"
+source_text source.Unknown = codes "unknown"
+source_text source.Range = codes "range"
+
 -- the line, without its newline; none for a run that was done
 abbrev pub line_of : Status → List ℕ
 line_of Done = []
 line_of Words = codes "wfpatch: words"
 line_of (Image rule at) = codes "wfpatch: image " ++ rule_text rule ++ codes " at " ++ decimal at
+line_of (Source rule line) =
+    codes "wfpatch: source line " ++ decimal line ++ codes " " ++ source_text rule
 line_of Shelf = codes "wfpatch: shelf"
 line_of Sink = codes "wfpatch: sink"
 line_of Memory = codes "wfpatch: memory"

@@ -2,7 +2,9 @@
 #![tactic(auto)]
 
 mod rules;
+mod sources;
 mod status;
 
 pub use rules::ImageRule;
+pub use sources::SourceRule;
 pub use status::{LimitKind, Status, Unbuilt};

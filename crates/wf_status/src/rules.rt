@@ -4,7 +4,8 @@ use wf_outside::{ElfRule, LoadRule};
 
 /// A rule that a file breaks where it is no image: of the file format, or of loading.
 ///
-/// Executable and Linking Format, "ELF Header" to "Program Header"; RISC-V ELF psABI, "File Header".
+/// Executable and Linking Format, "ELF Header" to "Program Header"; RISC-V ELF psABI, "File
+/// Header".
 #[derive(Clone, Copy, Debug, PartialEq, Eq)]
 pub enum ImageRule {
     /// The file is shorter than its header.

@@ -2,7 +2,7 @@
 ghost use Rattle.std.specs.Prelude.{◌≡◌, IfOk};
 ghost use Rattle.wf_status.specs.StatusText.{code_of, line_of};
 
-use crate::ImageRule;
+use crate::{ImageRule, SourceRule};
 use std::alloc::Global;
 use std::fmt;
 use wf_outside::{Memory, Text};
@@ -30,7 +30,7 @@ pub enum Unbuilt {
 /// How a run ended.
 #[derive(Clone, Copy, Debug, PartialEq, Eq)]
 pub enum Status {
-    /// The whole report was put.
+    /// All that was to be put was put.
     Done,
     /// No command has these words.
     Words,
@@ -38,6 +38,11 @@ pub enum Status {
     Image {
         rule: ImageRule,
         at: u64,
+    },
+    /// The assembler's source breaks this rule first, in this line, counted from 1.
+    Source {
+        rule: SourceRule,
+        line: u64,
     },
     /// A file could not be read.
     Shelf,
@@ -58,8 +63,8 @@ pub enum Status {
 }
 
 impl Status {
-    /// The exit status: 0 for `Done`, 1 for `Words`, 2 for `Image`, 5 for `Shelf`, 6 for `Sink`, 7 for `Memory`, 8
-    /// for `Limit`, 10 for `Unbuilt`.
+    /// The exit status: 0 for `Done`, 1 for `Words`, 2 for `Image`, 4 for `Source`, 5 for `Shelf`,
+    /// 6 for `Sink`, 7 for `Memory`, 8 for `Limit`, 10 for `Unbuilt`.
     pub fn code(&self) -> u8
         ensures { result ≡ code_of self.now }
     {
@@ -67,6 +72,7 @@ impl Status {
             Status::Done => 0,
             Status::Words => 1,
             Status::Image { .. } => 2,
+            Status::Source { .. } => 4,
             Status::Shelf => 5,
             Status::Sink => 6,
             Status::Memory => 7,
@@ -125,6 +131,7 @@ impl fmt::Display for Status {
             Status::Done => Ok(()),
             Status::Words => write!(f, "wfpatch: words"),
             Status::Image { rule, at } => write!(f, "wfpatch: image {rule} at {at}"),
+            Status::Source { rule, line } => write!(f, "wfpatch: source line {line} {rule}"),
             Status::Shelf => write!(f, "wfpatch: shelf"),
             Status::Sink => write!(f, "wfpatch: sink"),
             Status::Memory => write!(f, "wfpatch: memory"),

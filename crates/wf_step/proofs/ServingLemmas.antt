@@ -20,7 +20,7 @@ use Rattle.wf_flat.specs.Accesses.{Access, access_of, holds, holds_page, is_open
 use Rattle.wf_flat.specs.Steps.{OfHart, MayLook, MayTake, MayPut, MaySwap, MayMiss, Reads, access_in, want_in, reserves, is_conditional, is_lost, misses, takes_for, put_of, swap_of, taken_by}
 use Rattle.wf_flat.specs.declared.state.Stage.TheVariants.{Here}
 use Rattle.wf_flat.specs.Calls.{Exactly, todo_of_page}
-use Rattle.wf_step.specs.declared.accesses.Found.{Found}
+use Rattle.wf_step.specs.declared.finding.Found.{Found}
 use Rattle.wf_step.specs.declared.actions.Operand.{Operand}
 use Rattle.wf_step.specs.declared.actions.Write.{Write}
 use Rattle.wf_step.specs.declared.actions.Write.TheVariants.{Put, PutIf, Swap}

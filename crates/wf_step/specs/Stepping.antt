@@ -27,7 +27,7 @@ use Rattle.wf_flat.specs.declared.event.Entry.{Entry}
 use Rattle.wf_flat.specs.State.{FlatState, HartState, PageState}
 use Rattle.wf_flat.specs.Legal.{IsLegal, end_of, at_rest}
 use Rattle.wf_flat.specs.Follows.{ends_unit}
-use Rattle.wf_step.specs.declared.accesses.Found.{Found}
+use Rattle.wf_step.specs.declared.finding.Found.{Found}
 use Rattle.wf_step.specs.declared.stepping.Start.{Start}
 use Rattle.wf_step.specs.declared.stepping.Start.TheVariants.{Stopped, Word, Fault}
 use Rattle.wf_step.specs.declared.actions.Operand.{Operand}
@@ -58,7 +58,8 @@ AllBut P at [] = Unit {0}
 AllBut P zero (x ∷ xs) = AllByRecursion P xs
 AllBut P (suc at) (x ∷ xs) = P x × AllBut P at xs
 
--- nobody is inside, no hart but this one is in a try, no page is leaving, and none is held but this one, if any
+-- nobody is inside, no hart but this one is in a try, no page is leaving, and none is held but this
+-- one, if any
 pub record IsActing (s : FlatState) (h : ℕ) (held : Option ℕ) : Type 0 where
   pub no_one : s.inside ≡ None
   pub others : AllBut (λ hart. hart.fetched ≡ None) h s.harts
@@ -101,18 +102,21 @@ IsTrying arch inst hart =
 abbrev pub InAccess : FlatState → ℕ → ArchState → Inst → Type 0
 InAccess s h arch inst = OfHart s h (IsTrying arch inst)
 
--- a hart that runs is in a try of an instruction that is done, holds this page, if any, and leaves these registers
+-- a hart that runs is in a try of an instruction that is done, holds this page, if any, and leaves
+-- these registers
 abbrev pub IsDone : FlatState → ℕ → Option ℕ → ArchState → Type 0
 IsDone s h held next =
     OfHart s h
     (λ hart. (hart.life ≡ Running) × (is_done hart (want_in hart) ≡ true)
     × (held ≡ held_by s h (access_in hart)) × (next ≡ arch_after hart))
 
--- what an access finds in the data: a page, its right, its mapping and count of writes, and whether that is the last
+-- what an access finds in the data: a page, its right, its mapping and count of writes, and whether
+-- that is the last
 abbrev pub IsFound : FlatState → ℕ → Found → Type 0
 IsFound s number found =
     IsSomeAnd (data_in s.pages number)
-    (λ page. (found.page ≡ page.number) × (found.write ≡ page.write) × (found.birth ≡ page.birth) × (found.writes ≡ page.writes)
+    (λ page. (found.page ≡ page.number) × (found.write ≡ page.write) × (found.birth ≡ page.birth)
+    × (found.writes ≡ page.writes)
     × (found.last ≡ not (nat_lt page.writes s.limits.last_writes)))
 
 -- the page at an address, if there is one, and whether the hart's generation has met it
@@ -122,8 +126,8 @@ IsPlaceOf s h va (Some found) =
     IsFound s (page_of va) found
     × OfHart s h (λ hart. found.met ≡ has_met s.met hart.generation found.page)
 
--- what generations will have met where an access is to a page that the hart's own has not met, and is to meet; else
--- nothing
+-- what generations will have met where an access is to a page that the hart's own has not met, and
+-- is to meet; else nothing
 abbrev pub IsPageToSync : FlatState → ℕ → ℕ → Option (List (ℕ × ℕ)) → Type 0
 IsPageToSync s h va None =
     IfSome (data_in s.pages (page_of va))
@@ -160,7 +164,8 @@ abbrev pub WillReach : FlatState → ℕ → Operand → Write → Type 0
 WillReach s h operand write =
     OfHart s h (λ hart. is_lost (Some (store_want operand write)) hart.reservation ≡ false)
 
--- whether the write is made to the page that is there: that of a store-conditional where its reservation stands
+-- whether the write is made to the page that is there: that of a store-conditional where its
+-- reservation stands
 abbrev pub WillWrite : FlatState → ℕ → Operand → Write → Bool → Type 0
 WillWrite s h operand write will =
     OfHart s h
@@ -241,7 +246,8 @@ IsOpen h entries =
     AllByRecursion (λ entry. (entry.actor ≡ Hart h) × (ends_unit entry.event ≡ false)) entries
 
 -- a unit of a hart has begun behind the entries so far, from this state, and has come to this one
-pub record Begins (old : FlatState) (before : List Entry) (new : FlatState) (now : List Entry) (h : ℕ) : Type 0 where
+pub record Begins (old : FlatState) (before : List Entry) (new : FlatState) (now : List Entry)
+    (h : ℕ) : Type 0 where
   pub made : List Entry
   pub appended : now ≡ before ++ made
   pub legal : IsLegal (at_rest old) made
@@ -249,7 +255,8 @@ pub record Begins (old : FlatState) (before : List Entry) (new : FlatState) (now
   pub open_yet : IsOpen h made
 
 -- legal entries with P came behind those so far, and the state went along
-pub record Continues (old : FlatState) (before : List Entry) (new : FlatState) (now : List Entry) (P : List Entry → Type 0) : Type 0 where
+pub record Continues (old : FlatState) (before : List Entry) (new : FlatState) (now : List Entry)
+    (P : List Entry → Type 0) : Type 0 where
   pub made : List Entry
   pub appended : now ≡ before ++ made
   pub legal : IsLegal (at_rest old) made

@@ -15,8 +15,10 @@ ghost use Rattle.wf_flat.specs.Follows.{IsUnit};
 ghost use Rattle.wf_flat.specs.Unbuilt.{IsUnbuilt};
 ghost use Rattle.wf_step.specs.Stepping.{IsStart, IsResting, IsActing, IsAt, IsInTry, IsToDo, IsToMeet, IsDone, IsAction, Begins, Continues};
 
-use crate::accesses::{load, page_to_sync, page_to_sync_by, store};
 use crate::actions::{Action, action_of};
+use crate::finding::page_to_sync;
+use crate::loading::load;
+use crate::storing::{page_to_sync_by, store};
 use rv_hart::finish_call;
 use rv_inst::Arch;
 use rv_inst::causes::INSTRUCTION_PAGE_FAULT;
@@ -93,8 +95,8 @@ fn fetch(flat: &mut Flat, journal: &mut Vec<Entry>, hart: u8, pc: u64, word: u32
     append(journal, hart, Event::Fetch { pc, word });
 }
 
-/// A try ends: its instruction is done, and leaves these registers; the page that it holds, if any, is
-/// given back.
+/// A try ends: its instruction is done, and leaves these registers; the page that it holds, if any,
+/// is given back.
 pub fn end(flat: &mut Flat, journal: &mut Vec<Entry>, hart: u8, held: Option<u32>, next: Arch)
     requires room { vec_len journal.old < vec_capacity journal.old }
     requires acts { IsActing flat.old hart held }
@@ -340,8 +342,8 @@ fn idle(flat: &Flat, journal: &mut Vec<Entry>, hart: u8)
     append(journal, hart, Event::Idle);
 }
 
-/// One unit of a hart: a whole instruction or call, a trap, an exit, or an idle where it has stopped.
-/// After an error nothing has changed.
+/// One unit of a hart: a whole instruction or call, a trap, an exit, or an idle where it has
+/// stopped. After an error nothing has changed.
 pub fn step(flat: &mut Flat, journal: &mut Vec<Entry>, hart: u8) -> Result<(), StepFault>
     requires rests { IsResting flat.old }
     requires there { hart < length flat.old.harts }

@@ -8,8 +8,8 @@ use Rattle.wf_sv39.specs.declared.entry.TheConstants.{VALID, READ, WRITE, EXECUT
 abbrev pub pte_node : ℕ → ℕ
 pte_node frame = frame * 2 ^ 10 + VALID
 
--- the bits of a leaf beside its frame: V, R, U and A always; X and the software's bit 8 for text that is
--- private to one view; W and D for data that may be written
+-- the bits of a leaf beside its frame: V, R, U and A always; X and the software's bit 8 for text
+-- that is private to one view; W and D for data that may be written
 abbrev pub leaf_bits : Leaf → ℕ
 leaf_bits Private = VALID + READ + EXECUTE + USER + ACCESSED + PRIVATE
 leaf_bits Read = VALID + READ + USER + ACCESSED
@@ -19,7 +19,8 @@ leaf_bits Write = VALID + READ + WRITE + USER + ACCESSED + DIRTY
 abbrev pub pte_leaf : ℕ → Leaf → ℕ
 pte_leaf frame leaf = frame * 2 ^ 10 + leaf_bits leaf
 
--- the frame that an entry names, its physical page number in bits 53 to 10: physical memory starts at 0
+-- the frame that an entry names, its physical page number in bits 53 to 10: physical memory starts
+-- at 0
 abbrev pub frame_of : ℕ → ℕ
 frame_of pte = pte / 2 ^ 10 % 2 ^ 44
 

@@ -22,10 +22,12 @@ pub record IsLeaf (frames entry : ℕ) : Type 0 where
   pub low : frame < frames
   pub is : entry ≡ pte_leaf frame leaf
 
--- the node in a frame, with all below it, is a table of this level: each entry of a node at level 0 is 0 or
--- a leaf, and each entry of a node above is 0 or points to a table of the level below
+-- the node in a frame, with all below it, is a table of this level: each entry of a node at level 0
+-- is 0 or a leaf, and each entry of a node above is 0 or points to a table of the level below
 abbrev pub IsTable : WordsValue → ℕ → ℕ → Type 0
-IsTable words zero node = (i : ℕ) → i < PAGE_WORDS → (entry_in words node i ≡ 0) ⊎ IsLeaf words.frames (entry_in words node i)
+IsTable words zero node =
+    (i : ℕ) → i < PAGE_WORDS →
+    (entry_in words node i ≡ 0) ⊎ IsLeaf words.frames (entry_in words node i)
 IsTable words (suc level) node = (i : ℕ) → i < PAGE_WORDS
     → ((entry_in words node i ≡ 0) ⊎ IsPointer words.frames (entry_in words node i))
     × ((next : ℕ) → entry_in words node i ≡ pte_node next → IsTable words level next)

@@ -1,5 +1,5 @@
--- The walk of an address through a page table (RISC-V privileged ISA, "Sv39", and "Virtual Address Translation
--- Process").
+-- The walk of an address through a page table (RISC-V privileged ISA, "Sv39", and "Virtual Address
+-- Translation Process").
 use Rattle.std.specs.Prelude.{◌≡◌, ◌+◌, ◌-◌, ◌*◌, ◌/◌, ◌%◌, ◌^◌, ◌==◌, ℕ, zero, suc, List, [], ◌∷◌, Bool, true, false, not, ◌||◌}
 use Rattle.wf_frames.specs.Layout.{WordsValue}
 use Rattle.wf_sv39.specs.declared.tree.Walk.{Walk}
@@ -11,8 +11,8 @@ use Rattle.wf_sv39.specs.Tables.{entry_in, IsLeaf}
 abbrev pub is_far : ℕ → Bool
 is_far va = not ((va / 2 ^ 38 == 0) || (va / 2 ^ 38 == 2 ^ 26 - 1))
 
--- the index of an address in a node of a level: nine bits, above those of the levels below and the page's
--- twelve
+-- the index of an address in a node of a level: nine bits, above those of the levels below and the
+-- page's twelve
 abbrev pub index_at : ℕ → ℕ → ℕ
 index_at level va = va / 2 ^ (12 + 9 * level) % 2 ^ 9
 
@@ -20,8 +20,8 @@ index_at level va = va / 2 ^ (12 + 9 * level) % 2 ^ 9
 abbrev pub entry_at : WordsValue → ℕ → ℕ → ℕ → ℕ
 entry_at words node level va = entry_in words node (index_at level va)
 
--- the path of an address from the root to a leaf is three words: in the root at level 2 a pointer to a node at
--- level 1, there a pointer to a node at level 0, and there the leaf
+-- the path of an address from the root to a leaf is three words: in the root at level 2 a pointer
+-- to a node at level 1, there a pointer to a node at level 0, and there the leaf
 pub record IsPath (words : WordsValue) (root va : ℕ) (path : List ℕ) (leaf : ℕ) : Type 0 where
   pub upper : ℕ
   pub lower : ℕ
@@ -37,7 +37,8 @@ pub record IsLower (words : WordsValue) (root va node : ℕ) : Type 0 where
   pub first : entry_at words root 2 va ≡ pte_node upper
   pub second : entry_at words upper 1 va ≡ pte_node node
 
--- the node at a level on the path of an address: at level 2 the root, below it what its entry points to
+-- the node at a level on the path of an address: at level 2 the root, below it what its entry
+-- points to
 abbrev pub IsNodeAt : WordsValue → ℕ → ℕ → ℕ → ℕ → Type 0
 IsNodeAt words root va zero node = IsLower words root va node
 IsNodeAt words root va (suc zero) node = entry_at words root 2 va ≡ pte_node node

@@ -31,6 +31,8 @@ mod runs;
 #[cfg(test)]
 mod small_images;
 #[cfg(test)]
+mod source_tests;
+#[cfg(test)]
 mod start_tests;
 #[cfg(test)]
 mod status_tests;

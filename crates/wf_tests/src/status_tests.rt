@@ -1,7 +1,7 @@
 //! The literal lines of statuses, and their exit statuses.
 use crate::runs::unbuilt;
 use std::test::Fail;
-use wf_status::{ImageRule, LimitKind, Status, Unbuilt};
+use wf_status::{ImageRule, LimitKind, SourceRule, Status, Unbuilt};
 
 #[test]
 fn statuses(rt: HostRuntime) -> Result<(), Fail> {
@@ -39,6 +39,21 @@ fn statuses(rt: HostRuntime) -> Result<(), Fail> {
         assert_eq!(rt; status.code(), code, "{line}");
         let text = status.line(rt.alloc())?;
         assert_eq!(rt; text.bytes(), line.as_bytes(), "{line}");
+    }
+    Ok(())
+}
+
+#[test]
+fn rules_of_sources(rt: HostRuntime) -> Result<(), Fail> {
+    for (rule, line) in [
+        (SourceRule::Syntax, "wfpatch: source line 12 syntax"),
+        (SourceRule::Twice, "wfpatch: source line 12 twice"),
+        (SourceRule::Unknown, "wfpatch: source line 12 unknown"),
+        (SourceRule::Range, "wfpatch: source line 12 range"),
+    ] {
+        let status = Status::Source { rule, line: 12 };
+        assert_eq!(rt; status.code(), 4, "{line}");
+        assert_eq!(rt; status.line(rt.alloc())?.bytes(), line.as_bytes(), "{line}");
     }
     Ok(())
 }

@@ -85,13 +85,14 @@ pub fn hex_of(bytes: &[u8], most: u64) -> Option<u64>
 pub fn last_hex_of(bytes: &[u8], most: u64) -> Option<u64>
     ensures value { result ≡ number_from glyph_value 16 most 0 bytes.now }
     ensures read { IfSome result (λ n. (n ≤ most) × (bytes.now ≡ last_hex (length bytes.now) n)) }
-    ensures only { (n width : ℕ) → n ≤ most → n < 16 ^ width → bytes.now ≡ last_hex width n → result ≡ Some n }
+    ensures only { (n width : ℕ) →
+        n ≤ most → n < 16 ^ width → bytes.now ≡ last_hex width n → result ≡ Some n }
 {
     number_in(16, bytes, most)
 }
 
-/// The number whose hexadecimal digits of either case these are, leading zeros among them, where it is
-/// at most the most; none where there is no digit.
+/// The number whose hexadecimal digits of either case these are, leading zeros among them, where it
+/// is at most the most; none where there is no digit.
 #[tactic(auto, using(crate::proofs::NumberLemmas::loop_steps))]
 pub fn any_hex_of(bytes: &[u8], most: u64) -> Option<u64>
     ensures { result ≡ any_hex most bytes.now }

@@ -21,7 +21,8 @@ pub record HoldsImage (held : Option (List ℕ)) : Type 0 where
   pub is : HoldsBytes held (λ bytes. loaded bytes ≡ Some image)
 
 -- an image and a plain script are held, with P
-pub record HoldsBoth (image_file script_file : Option (List ℕ)) (P : ImageValue → List Command → Type 0) : Type 0 where
+pub record HoldsBoth (image_file script_file : Option (List ℕ))
+    (P : ImageValue → List Command → Type 0) : Type 0 where
   pub image : ImageValue
   pub script : List Command
   pub is_image : HoldsBytes image_file (λ bytes. loaded bytes ≡ Some image)
@@ -34,8 +35,9 @@ abbrev pub HoldsRun : Option (List ℕ) → Option (List ℕ) → (ImageValue �
 HoldsRun image script P =
     HoldsBoth image script (λ image script. (frames_of image ≤ most_frames) × P image script)
 
--- What is held under the names of the image and of the script calls for this answer, where no read or
--- put fails and memory suffices: a limit, a rule that the image breaks, what is not built, or a whole run.
+-- What is held under the names of the image and of the script calls for this answer, where no read
+-- or put fails and memory suffices: a limit, a rule that the image breaks, what is not built, or a
+-- whole run.
 abbrev pub CallsFor : Option (List ℕ) → Option (List ℕ) → Status → Type 0
 -- the image's file is too long; or there is an image, and the script's file is too long
 CallsFor image script (Limit File number most) =
@@ -60,8 +62,8 @@ CallsFor image script Done =
     (λ image script. (pc : ℕ) → MeetsUnbuilt (start_of image) script pc → ⊥)
 CallsFor image script status = ⊥
 
--- P of what is held under the names of the image and of the script, where the words are those of a run
--- and the shelf tells what it holds
+-- P of what is held under the names of the image and of the script, where the words are those of a
+-- run and the shelf tells what it holds
 abbrev pub IfRun : List (List ℕ) → Option (List HeldFile)
     → (Option (List ℕ) → Option (List ℕ) → Type 0) → Type 0
 IfRun words holds P =

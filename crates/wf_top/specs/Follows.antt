@@ -26,8 +26,8 @@ pub record MeetsUnbuiltAt (m : Moment) (hart pc : ℕ) : Type 0 where
   pub no_one : m.flat.inside ≡ None
   pub unbuilt : IsUnbuilt m.flat hart pc
 
--- A legal journal follows the script up to a unit of one of its commands, and what that unit is to do is
--- not built: the hart stands at this pc.
+-- A legal journal follows the script up to a unit of one of its commands, and what that unit is to
+-- do is not built: the hart stands at this pc.
 pub record MeetsUnbuilt (start : Moment) (script : List Command) (pc : ℕ) : Type 0 where
   pub front : List Command
   pub command : Command

@@ -5,6 +5,7 @@ pub mod Follows
 pub mod Following
 pub mod Running
 pub mod Answers
+pub mod Assembling
 pub mod Laws
 pub mod Fetching
 pub mod Putting

@@ -4,12 +4,14 @@ use Rattle.std.specs.List.{starts_with}
 use Rattle.wf_top.specs.declared.script.ScriptFault.{ScriptFault}
 use Rattle.wf_top.specs.declared.script.ScriptFault.TheVariants.{Line, Memory}
 
--- the number and what stands behind its newline, where the digits so far are those of a number (0: none yet)
+-- the number and what stands behind its newline, where the digits so far are those of a number (0:
+-- none yet)
 unfoldable pub number_from : ℕ → ℕ → List ℕ → Option (ℕ × List ℕ)
 number_from most number [] = None
 number_from most number (c ∷ cs) =
     if c == 10 then (if nat_lt 0 number then Some (number, cs) else None)
-    else (if nat_le 48 c && nat_le c 57 && nat_lt 0 (10 * number + (c - 48)) && nat_le (10 * number + (c - 48)) most
+    else (if nat_le 48 c && nat_le c 57 && nat_lt 0 (10 * number + (c - 48))
+    && nat_le (10 * number + (c - 48)) most
     then number_from most (10 * number + (c - 48)) cs
     else None)
 

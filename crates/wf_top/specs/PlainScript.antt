@@ -27,8 +27,8 @@ pub record IsScript (bytes : List ℕ) (commands : List Command) : Type 0 where
   pub plain : ArePlain commands
   pub spelled : bytes ≡ flat_map line_of commands
 
--- The first fault of the bytes stands in this line: the lines before it are those of plain commands,
--- and what is left begins with no line that may follow them.
+-- The first fault of the bytes stands in this line: the lines before it are those of plain
+-- commands, and what is left begins with no line that may follow them.
 pub record IsScriptFault (bytes : List ℕ) (line : ℕ) : Type 0 where
   pub front : List Command
   pub rest : List ℕ

@@ -27,8 +27,8 @@ frames_of image = used_of (boot_of image 1 sizes)
 abbrev pub start_of : ImageValue → Moment
 start_of image = at_rest (boot_of image 1 sizes)
 
--- The text is the report of one run of the flat machine: of one journal, which is legal from the start
--- and follows the script command by command, and of the state at its end.
+-- The text is the report of one run of the flat machine: of one journal, which is legal from the
+-- start and follows the script command by command, and of the state at its end.
 pub record IsRun (image : ImageValue) (script : List Command) (text : List ℕ) : Type 0 where
   pub journal : List Entry
   pub legal : IsLegal (start_of image) journal

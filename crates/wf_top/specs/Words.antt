@@ -14,3 +14,9 @@ run_words (command ∷ image ∷ script ∷ []) =
     && (not (begins_with_dash image) && not (begins_with_dash script))
     then Some (image, script) else None
 run_words words = None
+
+-- the name of the source, where the words are those of `asm SOURCE`
+abbrev pub asm_words : List (List ℕ) → Option (List ℕ)
+asm_words (command ∷ source ∷ []) =
+    if bytes_eq command (codes "asm") && not (begins_with_dash source) then Some source else None
+asm_words words = None

@@ -1,6 +1,7 @@
 //! The runs of the program.
 #![tactic(auto)]
 
+mod assembling;
 mod following;
 mod input;
 mod laws;

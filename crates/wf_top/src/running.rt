@@ -2,18 +2,20 @@
 ghost use Rattle.std.specs.Prelude.{◌≡◌, ◌≢◌, ◌↔◌, ◌⊎◌, ◌≤◌, ℕ, List, IfOk, IfErr, IfSome, OnOk, Some, None, Err};
 ghost use Rattle.wf_outside.specs.Files.{HasRisen, first_bytes};
 ghost use Rattle.wf_status.specs.declared.status.Status.{Status};
-ghost use Rattle.wf_top.specs.Words.{run_words};
+ghost use Rattle.wf_top.specs.Words.{asm_words, run_words};
 ghost use Rattle.wf_top.specs.PlainScript.{ArePlain};
 ghost use Rattle.wf_top.specs.Running.{IsRun, frames_of, most_frames};
 ghost use Rattle.wf_top.specs.Fetching.{IsRunStatus};
 ghost use Rattle.wf_top.specs.Answers.{HoldsImage, CallsFor, IfRun, IsFault, PutsRun, PutsFront};
+ghost use Rattle.wf_top.specs.Assembling.{IfAsm, PutsFile, PutsFileFront, SourceCallsFor};
 
+use crate::assembling::put_assembled;
 use crate::following::follow;
 use crate::input::fetch_script;
 use crate::laws::runs_are_determined;
 use crate::output::put_all;
 use crate::script::Command;
-use crate::words::names_of_run;
+use crate::words::{name_of_source, names_of_run};
 use std::alloc::Global;
 use wf_fetch::fetch_image;
 use wf_flat::{BootFault, boot};
@@ -107,15 +109,17 @@ fn run<S: Shelf, K: Sink>(
     put_all(sink, &text)
 }
 
-/// Runs a command, whose words these are, on the files of the shelf, and puts its output into the sink.
-/// The one command is `run IMAGE SCRIPT`: one hart runs the script, a plain one, on the image, an ELF
-/// executable, and the report is put.
+/// Runs a command, whose words these are, on the files of the shelf, and puts its output into the
+/// sink. `run IMAGE SCRIPT`: one hart runs the script, a plain one, on the image, an ELF executable,
+/// and the report is put. `asm SOURCE`: the source is assembled, and the ELF executable that it
+/// means is put.
 pub fn top<S: Shelf, K: Sink>(alloc: Global, words: &[Text], shelf: &mut S, sink: &mut K) -> Status
     // The words are those of no command.
-    ensures words { result ≡ Status.Words ↔ (run_words words.now ≡ None) }
+    ensures words { result ≡ Status.Words
+        ↔ (run_words words.now ≡ None) × (asm_words words.now ≡ None) }
 
-    // A read of a needed name failed: of the image's, or of the script's where there is an image. Where
-    // the shelf tells nothing of what it holds, both are needed.
+    // A read of a needed name failed: of the image's, or of the script's where there is an image.
+    // Where the shelf tells nothing of what it holds, both are needed.
     ensures shelf { result ≡ Status.Shelf
         → IfSome (run_words words.now)
         (λ names. HasRisen (S.faults shelf.old names.0) (S.faults shelf.new names.0)
@@ -130,19 +134,22 @@ pub fn top<S: Shelf, K: Sink>(alloc: Global, words: &[Text], shelf: &mut S, sink
     // A put failed.
     ensures sink { result ≡ Status.Sink → HasRisen (K.faults sink.old) (K.faults sink.new) }
 
-    // What was put is the report of one run of the flat machine, which follows the script command by command.
+    // What was put is the report of one run of the flat machine, which follows the script command
+    // by command.
     ensures done { result ≡ Status.Done
         → IfRun words.now (S.holds shelf.old)
         (λ image script. PutsRun image script (K.got sink.old) (K.got sink.new)) }
 
-    // What is answered stands in the files, or is a fault; and what the files call for is answered, but for a fault.
+    // What is answered stands in the files, or is a fault; and what the files call for is answered,
+    // but for a fault.
     ensures cause { IfRun words.now (S.holds shelf.old)
         (λ image script. IsFault result ⊎ CallsFor image script result) }
     ensures answer { IfRun words.now (S.holds shelf.old)
         (λ image script. (status : Status) → CallsFor image script status
         → (result ≡ status) ⊎ IsFault result) }
 
-    // Where the files call for a whole run and no count of faults rose, the answer is Done or Memory.
+    // Where the files call for a whole run and no count of faults rose, the answer is Done or
+    // Memory.
     ensures complete { IfSome (run_words words.now)
         (λ names. IfSome (S.holds shelf.old)
         (λ files. CallsFor (first_bytes names.0 files) (first_bytes names.1 files) Status.Done
@@ -162,15 +169,56 @@ pub fn top<S: Shelf, K: Sink>(alloc: Global, words: &[Text], shelf: &mut S, sink
         (λ image script. (K.got sink.new ≡ K.got sink.old)
         ⊎ PutsFront image script (K.got sink.old) (K.got sink.new)) }
 
+    // Of an assembly: a read of the source failed.
+    ensures source { result ≡ Status.Shelf
+        → IfSome (asm_words words.now)
+        (λ name. HasRisen (S.faults shelf.old name) (S.faults shelf.new name)) }
+
+    // What was put is the file of the module that the source means.
+    ensures assembled { result ≡ Status.Done
+        → IfAsm words.now (S.holds shelf.old)
+        (λ source. PutsFile source (K.got sink.old) (K.got sink.new)) }
+
+    // What is answered stands in the source, or is a fault; and what the source calls for is
+    // answered, but for a fault.
+    ensures asm_cause { IfAsm words.now (S.holds shelf.old)
+        (λ source. IsFault result ⊎ SourceCallsFor source result) }
+    ensures asm_answer { IfAsm words.now (S.holds shelf.old)
+        (λ source. (status : Status) → SourceCallsFor source status
+        → (result ≡ status) ⊎ IsFault result) }
+
+    // Where the source has no fault and no count of faults rose, the answer is Done or Memory.
+    ensures asm_complete { IfSome (asm_words words.now)
+        (λ name. IfSome (S.holds shelf.old)
+        (λ files. SourceCallsFor (first_bytes name files) Status.Done
+        → ¬ HasRisen (S.faults shelf.old name) (S.faults shelf.new name)
+        → ¬ HasRisen (K.faults sink.old) (K.faults sink.new)
+        → (result ≡ Status.Done) ⊎ (result ≡ Status.Memory))) }
+
+    // Where the answer is Sink or Memory, a front of the file at most was put.
+    ensures asm_front { result ≡ Status.Sink
+        → IfAsm words.now (S.holds shelf.old)
+        (λ source. PutsFileFront source (K.got sink.old) (K.got sink.new)) }
+    ensures asm_front_or_none { result ≡ Status.Memory
+        → IfAsm words.now (S.holds shelf.old)
+        (λ source. (K.got sink.new ≡ K.got sink.old)
+        ⊎ PutsFileFront source (K.got sink.old) (K.got sink.new)) }
+
     // What the shelf holds stays, and no count falls.
     ensures holds { S.holds shelf.new ≡ S.holds shelf.old }
     ensures counts { (other : List ℕ) → S.faults shelf.old other ≤ S.faults shelf.new other }
 {
     runs_are_determined();
-    let Some((image_name, script_name)) = names_of_run(words) else {
+    if let Some((image_name, script_name)) = names_of_run(words) {
+        return match run(alloc, image_name, script_name, shelf, sink) {
+            Ok(()) => Status::Done,
+            Err(status) => status,
+        };
+    }
+    let Some(name) = name_of_source(words) else {
         return Status::Words;
     };
-    match run(alloc, image_name, script_name, shelf, sink) {
+    match put_assembled(alloc, name, shelf, sink) {
         Ok(()) => Status::Done,
         Err(status) => status,
     }

@@ -11,7 +11,8 @@ const MAX_UNITS: u64 = 1_000_000;
 /// A command of a script.
 #[derive(Clone, Copy, Debug, PartialEq, Eq)]
 pub enum Command {
-    /// The hart goes on by `n` units. In a plain script the hart is 0, and `n` is from 1 to 1,000,000.
+    /// The hart goes on by `n` units. In a plain script the hart is 0, and `n` is from 1 to
+    /// 1,000,000.
     Step { hart: u8, n: u64 },
 }
 
@@ -86,9 +87,9 @@ fn line_at(bytes: &[u8], most: u64) -> Option<(u64, &[u8])>
 }
 
 /// The commands of a plain script, in the order of its lines. Each line is `step h0 N` and a
-/// newline, with `N` in decimal digits, the first not 0. Each `N` is at least 1, and their sum is at
-/// most 1,000,000. A file with no byte is a script with no command. The time is in proportion to the
-/// bytes that are read.
+/// newline, with `N` in decimal digits, the first not 0. Each `N` is at least 1, and their sum is
+/// at most 1,000,000. A file with no byte is a script with no command. The time is in proportion to
+/// the bytes that are read.
 pub fn read_script(alloc: Global, bytes: &[u8]) -> Result<Vec<Command>, ScriptFault>
     // What is read is spelled so.
     ensures found { IfOk result (λ commands. IsScript bytes.now commands.items) }

@@ -1,6 +1,6 @@
 //! The words of the command line.
 ghost use Rattle.std.specs.Prelude.{◌≡◌, IfSome, Some, None};
-ghost use Rattle.wf_top.specs.Words.{run_words, begins_with_dash};
+ghost use Rattle.wf_top.specs.Words.{asm_words, run_words, begins_with_dash};
 
 use wf_outside::Text;
 
@@ -11,6 +11,8 @@ pub fn names_of_run(words: &[Text]) -> Option<(&[u8], &[u8])>
     ensures some { IfSome result (λ names. run_words words.now ≡ Some (names.0.now, names.1.now)) }
     // Other words are those of no run.
     ensures none { result ≡ None → run_words words.now ≡ None }
+    // They are those of no assembly.
+    ensures alone { IfSome result (λ names. asm_words words.now ≡ None) }
 {
     match words {
         [command, image, script] => {
@@ -21,6 +23,29 @@ pub fn names_of_run(words: &[Text]) -> Option<(&[u8], &[u8])>
                 && !begins_with_dash(script)
             {
                 Some((image, script))
+            } else {
+                None
+            }
+        }
+        _ => None,
+    }
+}
+
+/// The name of the source, where the words are `asm SOURCE` and the name does not begin with a dash.
+/// The name is of bytes, and need not be UTF-8.
+pub fn name_of_source(words: &[Text]) -> Option<&[u8]>
+    // What is read is the name of a source.
+    ensures some { IfSome result (λ name. asm_words words.now ≡ Some name.now) }
+    // Other words are those of no assembly.
+    ensures none { result ≡ None → asm_words words.now ≡ None }
+    // They are those of no run.
+    ensures alone { IfSome result (λ name. run_words words.now ≡ None) }
+{
+    match words {
+        [command, source] => {
+            let source = source.bytes();
+            if command.bytes() == b"asm".as_slice() && !begins_with_dash(source) {
+                Some(source)
             } else {
                 None
             }

@@ -19,6 +19,6 @@ returns-clause-room c =
       symbols = c.sizes_of-sizes.ensures.fields.symbols;
       names = c.sizes_of-sizes.ensures.fields.strings;
       bss = omega arith;
-      near = c.bases_for-bases.ensures.near.0;
+      near = c.bases_for-bases.ensures.rising;
       low = omega arith;
     }

@@ -1,0 +1,5 @@
+pub mod NumberLemmas
+pub mod ReachLemmas
+pub mod ShortLemmas
+pub mod SizeLemmas
+pub mod WordLemmas

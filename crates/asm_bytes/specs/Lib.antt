@@ -1,0 +1,5 @@
+pub mod Bytes
+pub mod Laws
+pub mod Shorts
+pub mod Sizes
+pub mod Words

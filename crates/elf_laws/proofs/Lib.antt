@@ -1,0 +1,10 @@
+pub mod ApartLemmas
+pub mod FileLemmas
+pub mod HeaderLemmas
+pub mod HoldsLemmas
+pub mod PlanLemmas
+pub mod ReadLemmas
+pub mod RecordLemmas
+pub mod RuleLemmas
+pub mod StandLemmas
+pub mod SymbolLemmas

@@ -1,0 +1,9 @@
+pub mod AgreeLemmas
+pub mod DoneLemmas
+pub mod FirstLemmas
+pub mod ModuleLemmas
+pub mod NarrowLemmas
+pub mod PlaceLemmas
+pub mod PutLemmas
+pub mod SecondLemmas
+pub mod SymbolLemmas
