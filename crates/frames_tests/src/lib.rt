@@ -6,6 +6,8 @@ mod asking;
 #[cfg(test)]
 mod entries;
 #[cfg(test)]
+mod keeping;
+#[cfg(test)]
 mod taking;
 #[cfg(test)]
 mod walks;

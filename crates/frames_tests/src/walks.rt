@@ -1,110 +1,9 @@
 //! Walks through a table, at the edges of each level.
-ghost use Rattle.std.specs.Prelude.{◌≡◌, ◌<◌, ◌⊎◌, ℕ, true};
-ghost use Rattle.wf_sv39.specs.Entries.{pte_node as pointer};
-ghost use Rattle.wf_sv39.specs.Tables.{IsLeaf, IsPointer, IsTable};
-
 use std::test::Fail;
+use table_check::is_table;
 use wf_frames::{Words, word_place};
 use wf_outside::{Limits, PAGE_WORDS};
-use wf_sv39::{Leaf, Walk, frame_of, leaf_of, pte_leaf, pte_node, walk};
-
-// Whether an entry is 0 or a leaf for a frame that there is.
-fn is_leaf(frames: u32, pte: u64) -> bool
-    ensures { result ≡ true → (pte ≡ 0) ⊎ IsLeaf frames pte }
-{
-    if pte == 0 {
-        return true;
-    }
-    let Some(leaf) = leaf_of(pte) else {
-        return false;
-    };
-    let frame = frame_of(pte);
-    if frame >= u64::from(frames) {
-        return false;
-    }
-    pte == pte_leaf(frame as u32, leaf)
-}
-
-// Whether an entry points to a node in a frame that there is.
-fn is_pointer(frames: u32, pte: u64) -> bool
-    ensures { result ≡ true → IsPointer frames pte }
-{
-    let frame = frame_of(pte);
-    if frame >= u64::from(frames) {
-        return false;
-    }
-    pte == pte_node(frame as u32)
-}
-
-// Whether the node in a frame is a table of level 0.
-fn is_table_0(words: &Words, node: u32) -> bool
-    requires { node < words.now.frames }
-    ensures { result ≡ true → IsTable words.now 0 node }
-{
-    for i in 0..PAGE_WORDS {
-        let pte = words.get(word_place(words.frames(), node, i));
-        if !is_leaf(words.frames(), pte) {
-            return false;
-        }
-    }
-    true
-}
-
-// Whether an entry is 0, or points to a table of level 0.
-fn leads_to_0(words: &Words, pte: u64) -> bool
-    ensures pointer { result ≡ true → (pte ≡ 0) ⊎ IsPointer words.now.frames pte }
-    ensures below { result ≡ true → (next : ℕ) → pte ≡ pointer next → IsTable words.now 0 next }
-{
-    if pte == 0 {
-        return true;
-    }
-    if !is_pointer(words.frames(), pte) {
-        return false;
-    }
-    is_table_0(words, frame_of(pte) as u32)
-}
-
-// Whether the node in a frame is a table of level 1.
-fn is_table_1(words: &Words, node: u32) -> bool
-    requires { node < words.now.frames }
-    ensures { result ≡ true → IsTable words.now 1 node }
-{
-    for i in 0..PAGE_WORDS {
-        let pte = words.get(word_place(words.frames(), node, i));
-        if !leads_to_0(words, pte) {
-            return false;
-        }
-    }
-    true
-}
-
-// Whether an entry is 0, or points to a table of level 1.
-fn leads_to_1(words: &Words, pte: u64) -> bool
-    ensures pointer { result ≡ true → (pte ≡ 0) ⊎ IsPointer words.now.frames pte }
-    ensures below { result ≡ true → (next : ℕ) → pte ≡ pointer next → IsTable words.now 1 next }
-{
-    if pte == 0 {
-        return true;
-    }
-    if !is_pointer(words.frames(), pte) {
-        return false;
-    }
-    is_table_1(words, frame_of(pte) as u32)
-}
-
-// Whether the node in a frame is a table of level 2.
-fn is_table_2(words: &Words, node: u32) -> bool
-    requires { node < words.now.frames }
-    ensures { result ≡ true → IsTable words.now 2 node }
-{
-    for i in 0..PAGE_WORDS {
-        let pte = words.get(word_place(words.frames(), node, i));
-        if !leads_to_1(words, pte) {
-            return false;
-        }
-    }
-    true
-}
+use wf_sv39::{Leaf, Walk, pte_leaf, pte_node, walk};
 
 // The nodes are the frames 10 to 15, and the pages 20 to 22: the lowest page, the one at 0x40_1000,
 // and the highest below 2^38, whose leaf the test adds.
@@ -153,7 +52,7 @@ fn walks_end_at_each_level(rt: HostRuntime) -> Result<(), Fail> {
     }
     assert!(rt; words.frames() == 64);
     words.set(word_place(64, 15, 511), pte_leaf(22, Leaf::Write));
-    assert!(rt; words.frames() == 64 && is_table_2(&words, 10));
+    assert!(rt; words.frames() == 64 && is_table(&words, 10));
     let lowest = End::Path([0x2C01, 0x3001, 0x515B]);
     let middle = End::Path([0x2C01, 0x3401, 0x5453]);
     let highest = End::Path([0x3801, 0x3C01, 0x58D7]);

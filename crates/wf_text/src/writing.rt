@@ -34,10 +34,14 @@ fn write_hex(n: u64, buffer: &mut [u8; 16]) -> usize
     at
 }
 
-/// Appends the number in decimal.
+/// Appends the number in decimal. Most numbers of a journal have one digit.
 pub fn push_decimal(out: &mut Vec<u8>, n: u64) -> Result<(), AllocError>
     ensures { OnOk result (out.new.items ≡ out.old.items ++ decimal n) }
 {
+    if n < 10 {
+        out.push(b'0' + n as u8)?;
+        return Ok(());
+    }
     let mut buffer = Buffer::new();
     out.extend_from_slice(buffer.format(n).as_bytes())
 }

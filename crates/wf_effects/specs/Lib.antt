@@ -1,0 +1,4 @@
+pub mod Texts
+pub mod Generations
+pub mod Ranges
+pub mod Effects

@@ -1,0 +1,4 @@
+pub mod Requests
+pub mod Verdict
+pub mod Frames
+pub mod Work

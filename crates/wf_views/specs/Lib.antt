@@ -1,0 +1,5 @@
+pub mod Lists
+pub mod Views
+pub mod Kept
+pub mod Pages
+pub mod Records
