@@ -1,5 +1,6 @@
-# A source in the common part of this assembler's language and of the GNU assembler's: each instruction, each short
-# form, and the directives that both have. tools/asm-against-others.sh compares what both make of it.
+# A source in the common part of this assembler's language and of the GNU assembler's: each operation (the atomic ones in
+# one width and order each), each short form, and most directives that both have. tools/asm-against-others.sh compares
+# what both make of it.
         .text
         .globl _start
 _start: nop
