@@ -14,4 +14,4 @@ mod sizes;
 pub use fault::PutFault;
 pub use laws::{call_leads, code_decodes, la_finds, li_loads};
 pub use putting::{put, put_has_its_size};
-pub use sizes::size_of;
+pub use sizes::{puts_nothing, size_of};

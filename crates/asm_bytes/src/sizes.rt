@@ -15,8 +15,8 @@ pub fn gap(step: u128, place: u128) -> u128
     (step - place % step) % step
 }
 
-// Whether what a name is for puts nothing.
-fn puts_nothing(what: Use) -> bool
+/// Whether what a name is for puts nothing.
+pub fn puts_nothing(what: Use) -> bool
     ensures { result ≡ puts_nothing what }
 {
     match what {

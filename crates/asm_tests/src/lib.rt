@@ -10,4 +10,6 @@ mod instructions;
 #[cfg(test)]
 mod modules;
 #[cfg(test)]
+mod objects;
+#[cfg(test)]
 mod statements;

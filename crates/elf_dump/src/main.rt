@@ -1,8 +1,8 @@
 //! `elf_dump FILE`: prints what is loaded of an ELF executable, for comparing it with what other
-//! tools say: the entry, the first page behind all, the pages with their rights, the names, and each
-//! word that isn't 0 as its address and its eight bytes in the order of addresses. Addresses are
-//! hexadecimal. In a name each byte outside 20 to 7e, and the backslash, is `\xNN`. A fault, and
-//! other words than one, are told on the standard error with exit status 1.
+//! tools say: the entry, the first page behind all, the pages with their rights, the names, and
+//! each word that isn't 0 as its address and its eight bytes in the order of addresses. Addresses
+//! are hexadecimal. In a name each byte outside 20 to 7e, and the backslash, is `\xNN`. A fault,
+//! and other words than one, are told on the standard error with exit status 1.
 #![tactic(auto)]
 
 mod escaping;

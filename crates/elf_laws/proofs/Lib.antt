@@ -5,6 +5,8 @@ pub mod HoldsLemmas
 pub mod PlanLemmas
 pub mod ReadLemmas
 pub mod RecordLemmas
+pub mod RelaLemmas
 pub mod RuleLemmas
+pub mod SectionLemmas
 pub mod StandLemmas
 pub mod SymbolLemmas

@@ -15,7 +15,7 @@ use Rattle.wf_outside.specs.declared.rules.ElfRule.TheVariants.{Range, Strings, 
 use Rattle.elf_read.specs.declared.symbols.SymbolTable.{SymbolTable}
 use Rattle.elf_read.specs.declared.constants.TheConstants.{EHSIZE, PHENTSIZE, SHENTSIZE, SYMENTSIZE, PT_LOAD, SHT_SYMTAB, SHT_STRTAB}
 use Rattle.elf_read.specs.Elf.{segment_place, FitsFile, IsInFile, IsNamed}
-use Rattle.elf_read.specs.Records.{segment_at, is_symtab, symbol_table, header_of, segments_of, sections_of, symbols_of}
+use Rattle.elf_read.specs.Records.{segment_at, section_at, is_symtab, symbol_table, header_of, segments_of, sections_of, symbols_of}
 use Rattle.elf_read.specs.declared.records.Segment.{Segment}
 use Rattle.elf_read.specs.declared.records.Section.{Section}
 use Rattle.elf_read.specs.declared.records.Symbol.{Symbol}
@@ -24,7 +24,7 @@ use Rattle.elf_read.specs.declared.header.Header.{Header}
 use Rattle.elf_read.specs.declared.fault.ElfFault.{ElfFault}
 use Rattle.wf_outside.specs.Lists.{first_of}
 use Rattle.elf_read.specs.Reading.{Answers, IsLaidOut, AreSymbolsIn}
-use Rattle.elf_read.specs.Rules.{unless_each, layout_rules, header_rules, first_fault, segment_rules, section_rules, symbol_rules, fits_file, is_strings, is_only_symtab, lies_in_file, ends_in, has_home}
+use Rattle.elf_read.specs.Rules.{unless_each, layout_rules, header_rules, first_fault, segment_rules, section_rules, symbol_rules, rela_rules, fits_file, is_strings, is_only_symtab, lies_in_file, ends_in, has_home}
 
 -- where none of the first rules is broken, the others count
 pub first_of-none : (xs ys : List (Option ElfFault)) → first_of xs ≡ None → first_of (xs ++ ys) ≡ first_of ys
@@ -64,7 +64,7 @@ each_holds test rule at size xs e k d h =
     holds _ (fails_before_first (λ x. not (test x)) xs k d (omega arith))
 
 -- what is true where none of some rules is broken
-none_first : (x : Option ElfFault) (xs : List (Option ElfFault)) → None ≡ first_of (x ∷ xs) → (None ≡ x) × (None ≡ first_of xs)
+pub none_first : (x : Option ElfFault) (xs : List (Option ElfFault)) → None ≡ first_of (x ∷ xs) → (None ≡ x) × (None ≡ first_of xs)
 none_first None xs e = (refl, e)
 none_first (Some x) xs e = cc
 
@@ -111,7 +111,7 @@ outer_two a b c xs e none =
     (front.0, (none_first c [] (none_first b (c ∷ []) front.1).1).0)
 
 -- no section lies outside the file, and none is a wrong symbol table
-sections_fit : (size : ℕ) (h : Header) (sections : List Section) → None ≡ first_of (section_rules size h sections) → (None ≡ unless_each (lies_in_file size) Range h.e_shoff SHENTSIZE sections) × (None ≡ unless_each (is_only_symtab sections) Table h.e_shoff SHENTSIZE (enumerate_from 0 sections))
+pub sections_fit : (size : ℕ) (h : Header) (sections : List Section) → None ≡ first_of (section_rules size h sections) → (None ≡ unless_each (lies_in_file size) Range h.e_shoff SHENTSIZE sections) × (None ≡ unless_each (is_only_symtab sections) Table h.e_shoff SHENTSIZE (enumerate_from 0 sections))
 unfolding section_rules
 sections_fit size h sections e = outer_two _ _ _ (section_rules size h sections) refl e
 
@@ -169,7 +169,13 @@ of_sections bytes h = section_rules (length bytes) h (sections_of bytes h)
 abbrev of_symbols : List ℕ → Header → SymbolTable → List (Option ElfFault)
 of_symbols bytes h t = symbol_rules h t (symbols_of bytes t)
 
--- A file is read in four parts, each with its own rules. The first fault is that of the first part that
+abbrev of_relas : Kind → List ℕ → Header → SymbolTable → List (Option ElfFault)
+of_relas kind bytes h t = rela_rules kind bytes h (sections_of bytes h) (length (symbols_of bytes t))
+
+abbrev first_rules : Kind → List ℕ → Header → SymbolTable → List (Option ElfFault)
+first_rules kind bytes h t = header_rules kind bytes ++ of_segments bytes h ++ of_sections bytes h ++ of_symbols bytes h t
+
+-- A file is read in five parts, each with its own rules. The first fault is that of the first part that
 -- has one.
 first_parts : (a b c d : List (Option ElfFault)) (fault : ElfFault) → (first_of a ≡ Some fault) ⊎ ((first_of a ≡ None) × ((first_of b ≡ Some fault) ⊎ ((first_of b ≡ None) × (first_of c ≡ Some fault)))) → first_of (a ++ b ++ c ++ d) ≡ Some fault
 first_parts a b c d fault (inl e) = first_of-some (a ++ b ++ c) d fault (first_of-some (a ++ b) c fault (first_of-some a b fault e))
@@ -179,21 +185,24 @@ first_parts a b c d fault (inr (p, inr (q, e))) = first_of-some (a ++ b ++ c) d 
 last_part : (a b c d : List (Option ElfFault)) → first_of a ≡ None → first_of b ≡ None → first_of c ≡ None → first_of (a ++ b ++ c ++ d) ≡ first_of d
 last_part a b c d p q r = first_of-none (a ++ b ++ c) d (first_of-none (a ++ b) c (first_of-none a b p ∙ q) ∙ r)
 
-abbrev all_rules : Kind → List ℕ → Header → SymbolTable → List (Option ElfFault)
-all_rules kind bytes h t = header_rules kind bytes ++ of_segments bytes h ++ of_sections bytes h ++ of_symbols bytes h t
-
 -- by the header and the symbol table that were read
-all_first : (kind : Kind) (bytes : List ℕ) (h : Header) (t : SymbolTable) → h ≡ header_of bytes → t ≡ symbol_table (sections_of bytes h) → first_fault kind bytes ≡ first_of (all_rules kind bytes h t)
+all_first : (kind : Kind) (bytes : List ℕ) (h : Header) (t : SymbolTable) → h ≡ header_of bytes → t ≡ symbol_table (sections_of bytes h) → first_fault kind bytes ≡ first_of (first_rules kind bytes h t ++ of_relas kind bytes h t)
 unfolding first_fault
 all_first kind bytes h t is table =
-    ap (λ (x : Header). first_of (all_rules kind bytes x (symbol_table (sections_of bytes x)))) (sym is)
-    ∙ ap (λ (x : SymbolTable). first_of (all_rules kind bytes h x)) (sym table)
+    ap (λ (x : Header). first_of (first_rules kind bytes x (symbol_table (sections_of bytes x)) ++ of_relas kind bytes x (symbol_table (sections_of bytes x)))) (sym is)
+    ∙ ap (λ (x : SymbolTable). first_of (first_rules kind bytes h x ++ of_relas kind bytes h x)) (sym table)
+
+-- a fault of the first four parts
+in_first : (kind : Kind) (bytes : List ℕ) (h : Header) (t : SymbolTable) (fault : ElfFault) → h ≡ header_of bytes → t ≡ symbol_table (sections_of bytes h) → first_of (first_rules kind bytes h t) ≡ Some fault → first_fault kind bytes ≡ Some fault
+in_first kind bytes h t fault is table e =
+    all_first kind bytes h t is table ∙ first_of-some (first_rules kind bytes h t) (of_relas kind bytes h t) fault e
 
 pub in_header : (kind : Kind) (bytes : List ℕ) (fault : ElfFault) → first_of (header_rules kind bytes) ≡ Some fault → first_fault kind bytes ≡ Some fault
 in_header kind bytes fault e =
     let h = header_of bytes in
-    all_first kind bytes h (symbol_table (sections_of bytes h)) refl refl
-    ∙ first_parts (header_rules kind bytes) (of_segments bytes h) (of_sections bytes h) (of_symbols bytes h (symbol_table (sections_of bytes h))) fault (inl e)
+    let t = symbol_table (sections_of bytes h) in
+    in_first kind bytes h t fault refl refl
+    (first_parts (header_rules kind bytes) (of_segments bytes h) (of_sections bytes h) (of_symbols bytes h t) fault (inl e))
 
 -- what was read so far breaks no rule
 pub record IsSound (kind : Kind) (bytes : List ℕ) (h : Header) : Type 0 where
@@ -202,18 +211,28 @@ pub record IsSound (kind : Kind) (bytes : List ℕ) (h : Header) : Type 0 where
 
 pub in_segments : (kind : Kind) (bytes : List ℕ) (h : Header) (fault : ElfFault) → IsSound kind bytes h → first_of (of_segments bytes h) ≡ Some fault → first_fault kind bytes ≡ Some fault
 in_segments kind bytes h fault sound e =
-    all_first kind bytes h (symbol_table (sections_of bytes h)) sound.is refl
-    ∙ first_parts (header_rules kind bytes) (of_segments bytes h) (of_sections bytes h) (of_symbols bytes h (symbol_table (sections_of bytes h))) fault (inr (sound.unbroken, inl e))
+    let t = symbol_table (sections_of bytes h) in
+    in_first kind bytes h t fault sound.is refl
+    (first_parts (header_rules kind bytes) (of_segments bytes h) (of_sections bytes h) (of_symbols bytes h t) fault (inr (sound.unbroken, inl e)))
 
 pub in_sections : (kind : Kind) (bytes : List ℕ) (h : Header) (fault : ElfFault) → IsSound kind bytes h → first_of (of_segments bytes h) ≡ None → first_of (of_sections bytes h) ≡ Some fault → first_fault kind bytes ≡ Some fault
 in_sections kind bytes h fault sound p e =
-    all_first kind bytes h (symbol_table (sections_of bytes h)) sound.is refl
-    ∙ first_parts (header_rules kind bytes) (of_segments bytes h) (of_sections bytes h) (of_symbols bytes h (symbol_table (sections_of bytes h))) fault (inr (sound.unbroken, inr (p, e)))
+    let t = symbol_table (sections_of bytes h) in
+    in_first kind bytes h t fault sound.is refl
+    (first_parts (header_rules kind bytes) (of_segments bytes h) (of_sections bytes h) (of_symbols bytes h t) fault (inr (sound.unbroken, inr (p, e))))
 
-pub in_symbols : (kind : Kind) (bytes : List ℕ) (h : Header) (t : SymbolTable) → IsSound kind bytes h → t ≡ symbol_table (sections_of bytes h) → first_of (of_segments bytes h) ≡ None → first_of (of_sections bytes h) ≡ None → first_fault kind bytes ≡ first_of (of_symbols bytes h t)
-in_symbols kind bytes h t sound is p q =
+pub in_symbols : (kind : Kind) (bytes : List ℕ) (h : Header) (t : SymbolTable) (fault : ElfFault) → IsSound kind bytes h → t ≡ symbol_table (sections_of bytes h) → first_of (of_segments bytes h) ≡ None → first_of (of_sections bytes h) ≡ None → first_of (of_symbols bytes h t) ≡ Some fault → first_fault kind bytes ≡ Some fault
+in_symbols kind bytes h t fault sound is p q e =
+    in_first kind bytes h t fault sound.is is
+    (last_part (header_rules kind bytes) (of_segments bytes h) (of_sections bytes h) (of_symbols bytes h t) sound.unbroken p q ∙ e)
+
+pub in_relas : (kind : Kind) (bytes : List ℕ) (h : Header) (t : SymbolTable) (sections : List Section) (symbols : ℕ) → IsSound kind bytes h → t ≡ symbol_table (sections_of bytes h) → sections ≡ sections_of bytes h → symbols ≡ length (symbols_of bytes t) → first_of (of_segments bytes h) ≡ None → first_of (of_sections bytes h) ≡ None → first_of (of_symbols bytes h t) ≡ None → first_fault kind bytes ≡ first_of (rela_rules kind bytes h sections symbols)
+in_relas kind bytes h t sections symbols sound is are count p q r =
     all_first kind bytes h t sound.is is
-    ∙ last_part (header_rules kind bytes) (of_segments bytes h) (of_sections bytes h) (of_symbols bytes h t) sound.unbroken p q
+    ∙ first_of-none (first_rules kind bytes h t) (of_relas kind bytes h t)
+    (last_part (header_rules kind bytes) (of_segments bytes h) (of_sections bytes h) (of_symbols bytes h t) sound.unbroken p q ∙ r)
+    ∙ ap (λ (x : List Section). first_of (rela_rules kind bytes h x (length (symbols_of bytes t)))) (sym are)
+    ∙ ap (λ (n : ℕ). first_of (rela_rules kind bytes h sections n)) (sym count)
 
 -- what a part answers is what the whole answers
 pub part_answers : {X Y : Type 0} (r : Result X ElfFault) (e : ElfFault) (rules : List (Option ElfFault)) (first : Option ElfFault) (P : Y → Type 0) → r ≡ Err e → Answers (Err e) rules P → ((fault : ElfFault) → first_of rules ≡ Some fault → first ≡ Some fault) → (r ≡ Err Memory) ⊎ (result_err r ≡ first)
@@ -227,3 +246,7 @@ headers_in bytes h segments is room are i l =
     let count : length segments ≡ h.e_phnum = ap length are ∙ length-map-range_with_len (λ i. segment_at bytes (h.e_phoff + PHENTSIZE * i)) 0 h.e_phnum in
     let room : h.e_phoff + PHENTSIZE * h.e_phnum ≤ length bytes = room.segments (omega arith) in
     omega arith
+
+-- how many sections there are
+pub sections_count : (bytes : List ℕ) (h : Header) (sections : List Section) → sections ≡ sections_of bytes h → length sections ≡ h.e_shnum
+sections_count bytes h sections are = ap length are ∙ length-map-range_with_len (λ i. section_at bytes (h.e_shoff + SHENTSIZE * i)) 0 h.e_shnum

@@ -1,17 +1,22 @@
 -- What stands in a file: each record with the fields of ELF64 at their places from its start, and
--- tables of records (System V ABI, "ELF Header", "Program Header", "Section Header", "Symbol Table"
--- and "String Table").
-use Rattle.std.specs.Prelude.{ℕ, ◌+◌, ◌*◌, ◌/◌, ◌==◌, Bool, List, drop, find, map, slice_get, slice_index, slice_range, unwrap_or}
-use Rattle.std.specs.List.{position_or_len, range_with_len}
+-- tables of records (System V ABI, "ELF Header", "Program Header", "Section Header", "Symbol
+-- Table", "String Table" and "Relocation").
+use Rattle.std.specs.Prelude.{ℕ, ◌+◌, ◌*◌, ◌/◌, ◌==◌, Bool, if◌then◌else◌, List, [], ◌∷◌, drop, find, map, slice_get, slice_index, slice_range, unwrap_or}
+use Rattle.std.specs.Int.{cast_signed, w64}
+use Rattle.std.specs.List.{enumerate_from, flat_map, position_or_len, range_with_len}
 use Rattle.std.specs.Option.{option_map, option_and_then}
+use Rattle.elf_read.specs.declared.elf.Kind.{Kind}
+use Rattle.elf_read.specs.declared.elf.Kind.TheVariants.{Exec, Rel}
 use Rattle.elf_read.specs.declared.header.Header.{Header}
+use Rattle.elf_read.specs.declared.records.Rela.{Rela}
 use Rattle.elf_read.specs.declared.records.Segment.{Segment}
 use Rattle.elf_read.specs.declared.records.Section.{Section}
 use Rattle.elf_read.specs.declared.records.Span.{Span}
 use Rattle.elf_read.specs.declared.records.Symbol.{Symbol}
 use Rattle.elf_read.specs.declared.symbols.SymbolTable.{SymbolTable}
-use Rattle.elf_read.specs.declared.constants.TheConstants.{E_TYPE_PLACE, E_MACHINE_PLACE, E_ENTRY_PLACE, E_PHOFF_PLACE, E_SHOFF_PLACE, E_FLAGS_PLACE, E_PHENTSIZE_PLACE, E_PHNUM_PLACE, E_SHENTSIZE_PLACE, E_SHNUM_PLACE, E_SHSTRNDX_PLACE, PHENTSIZE, SHENTSIZE, SYMENTSIZE, SHT_SYMTAB}
+use Rattle.elf_read.specs.declared.constants.TheConstants.{E_TYPE_PLACE, E_MACHINE_PLACE, E_ENTRY_PLACE, E_PHOFF_PLACE, E_SHOFF_PLACE, E_FLAGS_PLACE, E_PHENTSIZE_PLACE, E_PHNUM_PLACE, E_SHENTSIZE_PLACE, E_SHNUM_PLACE, E_SHSTRNDX_PLACE, PHENTSIZE, SHENTSIZE, SYMENTSIZE, RELAENTSIZE, SHT_SYMTAB, SHT_RELA}
 use Rattle.elf_read.specs.Fields.{field}
+use Rattle.elf_read.specs.Relas.{RelaGroupValue}
 
 -- the header of the file
 unfoldable pub header_of : List ℕ → Header
@@ -79,6 +84,14 @@ symbol_at bytes names at = record {
   st_size = field 8 (at + 16) bytes;
 }
 
+-- an entry of a table of relocations with addends
+unfoldable pub rela_at : List ℕ → ℕ → Rela
+rela_at bytes at = record {
+  r_offset = field 8 at bytes;
+  r_info = field 8 (at + 8) bytes;
+  r_addend = cast_signed w64 (field 8 (at + 16) bytes);
+}
+
 -- the n records of a table, one after another from a place on, each of so many bytes
 abbrev pub table : {X : Type 0} → (ℕ → X) → ℕ → ℕ → ℕ → List X
 table read at size n = map (λ i. read (at + size * i)) (range_with_len 0 n)
@@ -110,3 +123,23 @@ symbol_table sections =
 -- the symbols
 abbrev pub symbols_of : List ℕ → SymbolTable → List Symbol
 symbols_of bytes t = table (symbol_at bytes t.names) t.at SYMENTSIZE t.count
+
+-- the section is a table of relocations with addends
+abbrev pub is_rela : Section → Bool
+is_rela s = s.sh_type == SHT_RELA
+
+-- the entries of such a section
+abbrev pub relas_in : List ℕ → Section → List Rela
+relas_in bytes s = table (rela_at bytes) s.sh_offset RELAENTSIZE (s.sh_size / RELAENTSIZE)
+
+-- the group of section i, which is a table of relocations; any other section has none
+abbrev pub group_of : List ℕ → ℕ × Section → List RelaGroupValue
+group_of bytes (i, s) =
+    if is_rela s
+    then record { section = i; target = s.sh_info; relas = relas_in bytes s } ∷ []
+    else []
+
+-- the relocations by section; those of an executable file are not read
+abbrev pub relas_of : Kind → List ℕ → List Section → List RelaGroupValue
+relas_of Exec bytes sections = []
+relas_of Rel bytes sections = flat_map (group_of bytes) (enumerate_from 0 sections)

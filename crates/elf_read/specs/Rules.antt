@@ -1,13 +1,13 @@
 -- The rules of a file, in the order in which they are looked at, each with the place that is told
 -- where it is broken (System V ABI, "ELF Header", "Program Header", "Section Header", "Symbol
--- Table" and "String Table"; RISC-V ELF psABI, "File Header").
+-- Table", "String Table" and "Relocation"; RISC-V ELF psABI, "File Header").
 use Rattle.std.specs.Prelude.{ℕ, ◌+◌, ◌*◌, ◌%◌, ◌^◌, ◌==◌, ◌&&◌, ◌||◌, not, Bool, false, if◌then◌else◌, List, [], ◌∷◌, ◌++◌, Option, Some, None, length, nat_lt, nat_le, nat_eq, bit_and, slice_index, slice_get, position}
-use Rattle.std.specs.List.{starts_with, enumerate_from}
+use Rattle.std.specs.List.{starts_with, enumerate_from, flat_map}
 use Rattle.std.specs.Option.{option_map, option_map_or}
 use Rattle.wf_outside.specs.declared.rules.ElfRule.{ElfRule}
 use Rattle.wf_outside.specs.declared.rules.ElfRule.TheVariants.{Short, Magic, Class, Order, Kind as Kind_, Machine, Flags, Table, Range, Strings}
 use Rattle.elf_read.specs.declared.elf.Kind.{Kind}
-use Rattle.elf_read.specs.declared.elf.Kind.TheVariants.{Exec}
+use Rattle.elf_read.specs.declared.elf.Kind.TheVariants.{Exec, Rel}
 use Rattle.elf_read.specs.declared.fault.ElfFault.{ElfFault}
 use Rattle.elf_read.specs.declared.fault.ElfFault.TheVariants.{Rule}
 use Rattle.elf_read.specs.declared.header.Header.{Header}
@@ -16,9 +16,11 @@ use Rattle.elf_read.specs.declared.records.Segment.{Segment}
 use Rattle.elf_read.specs.declared.records.Section.{Section}
 use Rattle.elf_read.specs.declared.records.Span.{Span}
 use Rattle.elf_read.specs.declared.records.Symbol.{Symbol}
-use Rattle.elf_read.specs.declared.constants.TheConstants.{EHSIZE, PHENTSIZE, SHENTSIZE, SYMENTSIZE, EI_CLASS, EI_DATA, E_TYPE_PLACE, E_MACHINE_PLACE, E_FLAGS_PLACE, E_PHENTSIZE_PLACE, E_PHOFF_PLACE, E_SHENTSIZE_PLACE, E_SHOFF_PLACE, E_SHSTRNDX_PLACE, ELFCLASS64, ELFDATA2LSB, ET_EXEC, EM_RISCV, EF_RISCV_RVC, EF_RISCV_RVE, PT_LOAD, SHT_NULL, SHT_STRTAB, SHT_NOBITS, SHN_LORESERVE, SHN_XINDEX}
+use Rattle.elf_read.specs.declared.records.Rela.{Rela}
+use Rattle.elf_read.specs.declared.constants.TheConstants.{EHSIZE, PHENTSIZE, SHENTSIZE, SYMENTSIZE, RELAENTSIZE, EI_CLASS, EI_DATA, E_TYPE_PLACE, E_MACHINE_PLACE, E_FLAGS_PLACE, E_PHENTSIZE_PLACE, E_PHOFF_PLACE, E_SHENTSIZE_PLACE, E_SHOFF_PLACE, E_SHSTRNDX_PLACE, ELFCLASS64, ELFDATA2LSB, ET_EXEC, ET_REL, EM_RISCV, EF_RISCV_RVC, EF_RISCV_RVE, PT_LOAD, SHT_NULL, SHT_STRTAB, SHT_NOBITS, SHT_REL, SHN_LORESERVE, SHN_XINDEX}
 use Rattle.wf_outside.specs.Lists.{first_of}
-use Rattle.elf_read.specs.Records.{is_symtab, header_of, segments_of, sections_of, symbol_table, symbols_of}
+use Rattle.elf_read.specs.Records.{is_symtab, is_rela, header_of, segments_of, sections_of, symbol_table, symbols_of, relas_in}
+use Rattle.elf_read.specs.Relas.{symbol_number}
 
 -- the rule is broken, at this place, unless the test holds
 abbrev pub unless : Bool → ElfRule → ℕ → Option ElfFault
@@ -33,6 +35,7 @@ unless_each holds rule at size xs =
 -- e_type of the kind that is asked for
 abbrev pub type_of : Kind → ℕ
 type_of Exec = ET_EXEC
+type_of Rel = ET_REL
 
 -- a segment that is to be loaded has its part of the file, memory for it, and addresses for that
 abbrev pub fits_file : ℕ → Segment → Bool
@@ -74,6 +77,27 @@ abbrev pub has_home : ℕ → Symbol → Bool
 has_home sections s =
     nat_lt s.st_shndx sections
     || (nat_le SHN_LORESERVE s.st_shndx && not (s.st_shndx == SHN_XINDEX))
+
+-- a section's number is that of a symbol table
+abbrev pub is_symbols : List Section → ℕ → Bool
+is_symbols sections i = option_map_or is_symtab (slice_get sections i) false
+
+-- a section has whole entries, their symbols are in a symbol table, and what they change is there
+abbrev pub has_relas : List Section → Section → Bool
+has_relas sections s =
+    s.sh_entsize == RELAENTSIZE
+    && s.sh_size % RELAENTSIZE == 0
+    && is_symbols sections s.sh_link
+    && nat_lt s.sh_info (length sections)
+
+-- a section is no table of relocations, or it has whole ones with addends
+abbrev pub is_linked : List Section → Section → Bool
+is_linked sections s =
+    not (s.sh_type == SHT_REL) && (not (is_rela s) || has_relas sections s)
+
+-- the symbol that an entry names is one of so many
+abbrev pub has_symbol : ℕ → Rela → Bool
+has_symbol symbols r = nat_lt (symbol_number r) symbols
 
 -- the rules of the first bytes
 abbrev pub ident_rules : List ℕ → List (Option ElfFault)
@@ -130,6 +154,26 @@ symbol_rules h t symbols =
     ∷ unless_each (has_home h.e_shnum) Table t.at SYMENTSIZE symbols
     ∷ []
 
+-- the rule of the entries of a section, in a file with so many symbols
+abbrev pub entry_rule : List ℕ → ℕ → Section → Option ElfFault
+entry_rule bytes symbols s =
+    if is_rela s
+    then unless_each (has_symbol symbols) Table s.sh_offset RELAENTSIZE (relas_in bytes s)
+    else None
+
+-- the rules of section i about relocations: its header's and then its entries'
+abbrev pub link_rules : List ℕ → Header → List Section → ℕ → ℕ × Section → List (Option ElfFault)
+link_rules bytes h sections symbols (i, s) =
+    unless (is_linked sections s) Table (h.e_shoff + SHENTSIZE * i)
+    ∷ entry_rule bytes symbols s
+    ∷ []
+
+-- the rules of relocations, section by section; those of an executable file are not looked at
+unfoldable pub rela_rules : Kind → List ℕ → Header → List Section → ℕ → List (Option ElfFault)
+rela_rules Exec bytes h sections symbols = []
+rela_rules Rel bytes h sections symbols =
+    flat_map (link_rules bytes h sections symbols) (enumerate_from 0 sections)
+
 -- the first rule that is broken, and where
 unfoldable pub first_fault : Kind → List ℕ → Option ElfFault
 first_fault kind bytes =
@@ -137,9 +181,11 @@ first_fault kind bytes =
     let h = header_of bytes in
     let sections = sections_of bytes h in
     let t = symbol_table sections in
+    let symbols = symbols_of bytes t in
     first_of (
     header_rules kind bytes
     ++ segment_rules size h (segments_of bytes h)
     ++ section_rules size h sections
-    ++ symbol_rules h t (symbols_of bytes t)
+    ++ symbol_rules h t symbols
+    ++ rela_rules kind bytes h sections (length symbols)
     )

@@ -1,7 +1,7 @@
 //! The numbers of the standard.
 //!
-//! System V ABI, "ELF Header", "Program Header", "Section Header" and "Symbol Table"; RISC-V ELF
-//! psABI, "File Header".
+//! System V ABI, "ELF Header", "Program Header", "Section Header", "Symbol Table" and "Relocation";
+//! RISC-V ELF psABI, "File Header".
 
 /// The bytes of the file's header.
 pub const EHSIZE: usize = 64;
@@ -14,6 +14,9 @@ pub const SHENTSIZE: usize = 64;
 
 /// The bytes of a symbol.
 pub const SYMENTSIZE: usize = 24;
+
+/// The bytes of a relocation with addend.
+pub const RELAENTSIZE: usize = 24;
 
 /// Where the byte of the class stands in the file's header.
 pub const EI_CLASS: usize = 4;
@@ -63,6 +66,9 @@ pub const ELFDATA2LSB: u8 = 1;
 /// The version of the format: the only one.
 pub const EV_CURRENT: u8 = 1;
 
+/// The type of relocatable files.
+pub const ET_REL: u16 = 1;
+
 /// The type of executable files.
 pub const ET_EXEC: u16 = 2;
 
@@ -111,8 +117,14 @@ pub const SHT_SYMTAB: u32 = 2;
 /// A string table.
 pub const SHT_STRTAB: u32 = 3;
 
+/// A table of relocations with addends.
+pub const SHT_RELA: u32 = 4;
+
 /// A section that takes no bytes of the file.
 pub const SHT_NOBITS: u32 = 8;
+
+/// A table of relocations without addends.
+pub const SHT_REL: u32 = 9;
 
 /// The section of a symbol that is not defined.
 pub const SHN_UNDEF: u16 = 0;

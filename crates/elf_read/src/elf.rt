@@ -1,7 +1,8 @@
 //! Files that were read.
-ghost use Rattle.std.specs.Prelude.{◌≡◌, ◌≤◌, ◌+◌, ◌<◌, ◌^◌, ◌⊎◌, Err, [], length, vec_len, slice_range, IfOk, All};
+ghost use Rattle.std.specs.Prelude.{◌≡◌, ◌≤◌, ◌+◌, ◌<◌, ◌^◌, ◌⊎◌, Err, length, vec_len, slice_range, IfOk, All};
 ghost use Rattle.std.specs.Result.{result_err};
-ghost use Rattle.elf_read.specs.Elf.{IsElf, FitsFile, IsNamed, segment_place};
+ghost use Rattle.elf_read.specs.Elf.{IsElf, FitsFile, LiesInFile, IsNamed, HasHome, segment_place};
+ghost use Rattle.elf_read.specs.Relas.{IsRooted};
 ghost use Rattle.elf_read.specs.Rules.{first_fault};
 
 use crate::constants::PHENTSIZE;
@@ -17,11 +18,14 @@ use std::marker::Model;
 pub enum Kind {
     /// An executable file, ET_EXEC.
     Exec,
+    /// A relocatable file, ET_REL.
+    Rel,
 }
 
 /// A file that was read: its bytes, and the records in its tables.
 #[derive(Drop)]
 pub struct Elf {
+    kind: Kind,
     bytes: Vec<u8>,
     tables: Tables,
 }
@@ -32,34 +36,49 @@ impl Model for Elf {
     ghost Value = { ElfValue };
 
     ghost view = { λ e. record {
+      kind = e.kind;
       bytes = e.bytes.items;
       entry = e.tables.header.e_entry;
       segments = e.tables.segments.items;
       sections = e.tables.sections.items;
       symbols = e.tables.symbols.items;
+      relas = e.tables.relas.items;
     } };
 
     ghost invariant = { λ e.
-        IsKept e.bytes.items e.tables.header e.tables.segments.items e.tables.symbols.items };
+        IsKept e.bytes.items e.tables.header e.tables.segments.items e.tables.sections.items
+        e.tables.symbols.items e.tables.relas.items };
 }
 
 impl Elf {
     /// Reads a file of fewer than 2^32 bytes. A fault is the first rule that is broken, in the
     /// order of `specs/Rules.antt`. The time and the memory are those of the file's size, whatever
-    /// numbers stand in it.
+    /// numbers stand in it; of a relocatable file those of its relocation sections come to that,
+    /// each of which may be as long as the file.
     ///
-    /// System V ABI, "ELF Header" to "Symbol Table"; RISC-V ELF psABI, "File Header".
+    /// System V ABI, "ELF Header" to "Relocation"; RISC-V ELF psABI, "File Header".
     pub fn read(alloc: Global, bytes: Vec<u8>, kind: Kind) -> Result<Elf, ElfFault>
         requires { vec_len bytes < 2 ^ 32 }
         // What was read is what stands in the bytes.
-        ensures ok { IfOk result (IsElf bytes.items) }
+        ensures ok { IfOk result (IsElf kind bytes.items) }
         // A rule is answered exactly where it is the first that is broken, and a file exactly where
         // none is, unless memory ran out.
         ensures fault { (result ≡ Err ElfFault.Memory)
             ⊎ (result_err result ≡ first_fault kind bytes.items) }
     {
         let tables = read_tables(alloc, kind, &bytes)?;
-        Ok(Elf { bytes, tables })
+        Ok(Elf {
+            kind,
+            bytes,
+            tables,
+        })
+    }
+
+    /// What the file was asked to be.
+    pub fn kind(&self) -> Kind
+        ensures { result ≡ self.now.kind }
+    {
+        self.kind
     }
 
     /// The address at which the program begins, e_entry.
@@ -89,7 +108,9 @@ impl Elf {
 
     /// The section headers, in the order of the file.
     pub fn sections(&self) -> &[Section]
-        ensures { result.now ≡ self.now.sections }
+        ensures value { result.now ≡ self.now.sections }
+        // A section lies in the file, unless it is of type NULL or NOBITS.
+        ensures lie { All (LiesInFile (length self.now.bytes)) self.now.sections }
     {
         self.tables.sections.as_slice()
     }
@@ -99,15 +120,23 @@ impl Elf {
         ensures value { result.now ≡ self.now.symbols }
         // The bytes of each name lie in the file.
         ensures named { All (IsNamed (length self.now.bytes)) self.now.symbols }
+        // The section of each is there, or its number is SHN_LORESERVE or above.
+        ensures homes { All (HasHome (length self.now.sections)) self.now.symbols }
     {
         self.tables.symbols.as_slice()
     }
 
-    /// The relocations: none, since those of an executable file are not read.
+    /// The relocations, one group for each RELA section of a relocatable file, by the number of the
+    /// section; none of an executable file, whose relocations are not read.
+    ///
+    /// System V ABI, "Relocation".
     pub fn relas(&self) -> &[RelaGroup]
-        ensures { result.now ≡ [] }
+        ensures value { result.now ≡ self.now.relas }
+        // The section of each group and what it changes are there, and so are its entries' symbols.
+        ensures rooted { All (IsRooted (length self.now.sections) (length self.now.symbols))
+            self.now.relas }
     {
-        &[]
+        self.tables.relas.as_slice()
     }
 
     /// The bytes of a part of the file.

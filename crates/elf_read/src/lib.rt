@@ -1,7 +1,7 @@
 //! ELF files of 64 bits for RISC-V: what stands in their tables, or the first rule that one breaks.
 //!
-//! System V ABI, "ELF Header", "Program Header", "Section Header", "Symbol Table" and "String
-//! Table"; RISC-V ELF psABI, "File Header".
+//! System V ABI, "ELF Header", "Program Header", "Section Header", "Symbol Table", "String Table"
+//! and "Relocation"; RISC-V ELF psABI, "File Header".
 //!
 //! The rules are looked at in this order, each for all records before the next one. The first that
 //! is broken is answered with a place in the file.
@@ -30,8 +30,13 @@
 //! - `Strings`, at the first such symbol: its name has no zero byte in the string table.
 //! - `Table`, at the first such symbol: st_shndx is SHN_XINDEX, or is below SHN_LORESERVE and not
 //!   the number of a section.
+//! - `Table`, of a relocatable file alone, section by section: at the section's header, a REL
+//!   section; a RELA section with sh_entsize other than 24 or a size that is no multiple of it,
+//!   whose link is no SYMTAB or whose info is not the number of a section; then at its first such
+//!   entry, one whose symbol is not there.
 //!
-//! The names of sections, and the relocations of an executable file, are not looked at.
+//! The names of sections, and the relocations of an executable file, are not looked at, nor those
+//! of sections of other types that have some.
 #![tactic(auto)]
 
 pub mod constants;
@@ -42,6 +47,7 @@ mod header;
 mod names;
 mod reading;
 mod records;
+mod relas;
 mod rules;
 mod symbols;
 mod tables;

@@ -1,19 +1,20 @@
 //! The tables of a file that breaks no rule.
 ghost use Rattle.std.specs.Prelude.{◌≡◌, ◌<◌, ◌^◌, length, IfOk, All, ◌⊎◌, Err};
 ghost use Rattle.std.specs.Result.{result_err};
-ghost use Rattle.elf_read.specs.Records.{header_of, segments_of, sections_of, symbol_table, symbols_of};
+ghost use Rattle.elf_read.specs.Records.{header_of, segments_of, sections_of, symbol_table, symbols_of, relas_of};
 ghost use Rattle.elf_read.specs.Reading.{Checks, Answers, IsLaidOut, AreSymbolsIn};
 ghost use Rattle.elf_read.specs.Rules.{header_rules, segment_rules, section_rules, symbol_rules, first_fault};
-ghost use Rattle.elf_read.specs.Elf.{FitsFile, IsNamed, IsKept};
+ghost use Rattle.elf_read.specs.Elf.{FitsFile, LiesInFile, IsNamed, HasHome, IsKept};
 
 use crate::constants::EHSIZE;
 use crate::header::{Header, header_of};
+use crate::relas::checked_relas;
 use crate::rules::{
     check_ident, check_layout, check_sections, check_segments, check_symbols, check_target, require,
 };
 use crate::symbols::{SymbolTable, read_symbols, symbol_table};
 use crate::tables::{read_sections, read_segments};
-use crate::{ElfFault, Kind, Section, Segment, Symbol};
+use crate::{ElfFault, Kind, RelaGroup, Section, Segment, Symbol};
 use std::alloc::Global;
 use wf_outside::ElfRule;
 
@@ -24,6 +25,7 @@ pub struct Tables {
     pub segments: Vec<Segment>,
     pub sections: Vec<Section>,
     pub symbols: Vec<Symbol>,
+    pub relas: Vec<RelaGroup>,
 }
 
 // The header of a file whose header breaks no rule, or the first rule that it breaks.
@@ -72,6 +74,7 @@ pub fn checked_sections(
         Answers result (section_rules (length bytes.now) header.now sections)
         (λ v. v.items ≡ sections) }
     ensures symbols { IfOk result (λ v. AreSymbolsIn (length bytes.now) (symbol_table v.items)) }
+    ensures lie { IfOk result (λ v. All (LiesInFile (length bytes.now)) v.items) }
 {
     let at = header.e_shoff as usize;
     let sections = read_sections(alloc, bytes, at, header.e_shnum as usize)?;
@@ -91,6 +94,7 @@ pub fn checked_symbols(
     ensures first { let symbols = symbols_of bytes.now table.now in
         Answers result (symbol_rules header.now table.now symbols) (λ v. v.items ≡ symbols) }
     ensures named { IfOk result (λ v. All (IsNamed (length bytes.now)) v.items) }
+    ensures homes { IfOk result (λ v. All (HasHome header.now.e_shnum) v.items) }
 {
     let symbols = read_symbols(alloc, bytes, table)?;
     check_symbols(header, table, &symbols)?;
@@ -107,7 +111,10 @@ pub fn read_tables(alloc: Global, kind: Kind, bytes: &[u8]) -> Result<Tables, El
         (λ t. t.sections.items ≡ sections_of bytes.now (header_of bytes.now)) }
     ensures symbols { IfOk result
         (λ t. t.symbols.items ≡ symbols_of bytes.now (symbol_table t.sections.items)) }
-    ensures kept { IfOk result (λ t. IsKept bytes.now t.header t.segments.items t.symbols.items) }
+    ensures relas { IfOk result
+        (λ t. t.relas.items ≡ relas_of kind bytes.now t.sections.items) }
+    ensures kept { IfOk result (λ t. IsKept bytes.now t.header t.segments.items t.sections.items
+        t.symbols.items t.relas.items) }
     ensures fault { (result ≡ Err ElfFault.Memory)
         ⊎ (result_err result ≡ first_fault kind bytes.now) }
 {
@@ -116,10 +123,12 @@ pub fn read_tables(alloc: Global, kind: Kind, bytes: &[u8]) -> Result<Tables, El
     let sections = checked_sections(alloc, bytes, &header)?;
     let table = symbol_table(&sections);
     let symbols = checked_symbols(alloc, bytes, &header, &table)?;
+    let relas = checked_relas(alloc, kind, bytes, &header, &sections, symbols.len())?;
     Ok(Tables {
         header,
         segments,
         sections,
         symbols,
+        relas,
     })
 }

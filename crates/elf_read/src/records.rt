@@ -1,5 +1,8 @@
 //! The records of a file, with the names of ELF64. Numbers are as in the file, lowest byte first
 //! there.
+ghost use Rattle.std.specs.Prelude.{◌≡◌};
+ghost use Rattle.elf_read.specs.Relas.{symbol_number, relocation_type};
+
 use std::marker::Model;
 
 /// A part of the file: so many bytes, from a place in bytes from its start.
@@ -63,6 +66,26 @@ pub struct Rela {
     pub r_offset: u64,
     pub r_info: u64,
     pub r_addend: i64,
+}
+
+impl Rela {
+    /// The number of the symbol that the entry names, 0 for none.
+    ///
+    /// System V ABI, "Relocation", `ELF64_R_SYM`.
+    pub fn symbol(&self) -> u32
+        ensures { result ≡ symbol_number self.now }
+    {
+        (self.r_info / (1 << 32)) as u32
+    }
+
+    /// The number of the relocation's type.
+    ///
+    /// System V ABI, "Relocation", `ELF64_R_TYPE`.
+    pub fn kind(&self) -> u32
+        ensures { result ≡ relocation_type self.now }
+    {
+        (self.r_info % (1 << 32)) as u32
+    }
 }
 
 /// The entries of one relocation section: its number, and that of the section whose bytes they

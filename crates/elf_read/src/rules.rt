@@ -10,7 +10,7 @@ ghost use Rattle.elf_read.specs.Rules.{unless, unless_each, type_of, ident_rules
 use crate::constants::{
     E_FLAGS_PLACE, E_MACHINE_PLACE, E_PHENTSIZE_PLACE, E_PHOFF_PLACE, E_SHENTSIZE_PLACE,
     E_SHOFF_PLACE, E_SHSTRNDX_PLACE, E_TYPE_PLACE, EF_RISCV_RVC, EF_RISCV_RVE, EHSIZE, EI_CLASS,
-    EI_DATA, ELFCLASS64, ELFDATA2LSB, EM_RISCV, ET_EXEC, PHENTSIZE, PT_LOAD, SHENTSIZE,
+    EI_DATA, ELFCLASS64, ELFDATA2LSB, EM_RISCV, ET_EXEC, ET_REL, PHENTSIZE, PT_LOAD, SHENTSIZE,
     SHN_LORESERVE, SHN_XINDEX, SHT_NOBITS, SHT_NULL, SHT_STRTAB, SHT_SYMTAB, SYMENTSIZE,
 };
 use crate::header::Header;
@@ -53,6 +53,7 @@ fn type_of(kind: Kind) -> u16
 {
     match kind {
         Kind::Exec => ET_EXEC,
+        Kind::Rel => ET_REL,
     }
 }
 
@@ -153,7 +154,7 @@ fn has_symbols(sections: &[Section], section: &Section) -> bool
 }
 
 // The fault at the record with this number in a table, if there is one.
-fn require_none(first: Option<usize>, rule: ElfRule, at: u64, size: u64) -> Result<(), ElfFault>
+pub fn require_none(first: Option<usize>, rule: ElfRule, at: u64, size: u64) -> Result<(), ElfFault>
     requires { IfSome first (λ i. at + size * i < 2 ^ 64) }
     ensures { result_err result ≡ option_map (λ i. ElfFault.Rule rule (at + size * i)) first }
 {

@@ -7,6 +7,8 @@ mod building;
 #[cfg(test)]
 mod loading;
 #[cfg(test)]
+mod objects;
+#[cfg(test)]
 mod outside;
 #[cfg(test)]
 mod reading;

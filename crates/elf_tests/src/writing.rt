@@ -7,7 +7,7 @@ use std::process::Abort;
 use std::test::Fail;
 use wf_outside::{Memory, Text};
 
-fn symbol(alloc: Global, name: &[u8], section: u8, global: bool) -> Result<ModSymbol, Memory> {
+pub fn symbol(alloc: Global, name: &[u8], section: u8, global: bool) -> Result<ModSymbol, Memory> {
     Ok(ModSymbol {
         name: Text::of(alloc, name)?,
         section,
@@ -18,7 +18,7 @@ fn symbol(alloc: Global, name: &[u8], section: u8, global: bool) -> Result<ModSy
 }
 
 // A module of text alone.
-fn text_only(alloc: Global, text: Vec<u8>) -> Module {
+pub fn text_only(alloc: Global, text: Vec<u8>) -> Module {
     Module {
         form: Form::Exec,
         entry: 0x1_0000,
@@ -54,8 +54,8 @@ fn read_back(rt: &impl Abort, alloc: Global, module: &Module, size: u64) -> Resu
     Ok(Elf::read(alloc, bytes, Kind::Exec)?)
 }
 
-// A segment with these rights and this place, whose bytes stand at an address: so many in the file, and
-// so many in memory.
+// A segment with these rights and this place, whose bytes stand at an address: so many in the file,
+// and so many in memory.
 fn segment(rights: u32, place: u64, address: u64, stored: u64, memory: u64) -> Segment {
     Segment {
         p_type: 1,
@@ -184,6 +184,19 @@ fn writable_parts(rt: HostRuntime) -> Result<(), Fail> {
         kind: 1,
         symbol: 0,
         addend: 0,
+    })?;
+    assert!(rt; !module.is_writable());
+    Ok(())
+}
+
+// A full module whose last symbol is one of another file.
+#[test]
+fn undefined_in_an_executable(rt: HostRuntime) -> Result<(), Fail> {
+    let mut module = full(rt.alloc())?;
+    module.symbols.push(ModSymbol {
+        value: 0,
+        size: 0,
+        ..symbol(rt.alloc(), b"outside", 0, true)?
     })?;
     assert!(rt; !module.is_writable());
     Ok(())

@@ -1,4 +1,4 @@
 mod LengthLemmas
-mod OrderLemmas
+pub mod OrderLemmas
 mod PartLemmas
 mod WrittenLemmas

@@ -1,5 +1,6 @@
 pub mod Layout
 pub mod Modules
+pub mod Names
 pub mod Parts
 pub mod Places
 pub mod Records

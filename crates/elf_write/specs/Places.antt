@@ -1,5 +1,5 @@
 -- Bytes and numbers at places of a file.
-use Rattle.std.specs.Prelude.{ℕ, ◌-◌, ◌+◌, ◌*◌, ◌/◌, List, ◌++◌, length, replicate}
+use Rattle.std.specs.Prelude.{ℕ, ◌-◌, ◌+◌, ◌*◌, ◌/◌, ◌==◌, List, [], ◌∷◌, ◌++◌, length, replicate, if◌then◌else◌}
 use Rattle.std.specs.List.{flat_map}
 use Rattle.byteorder.specs.Endian.{little_bytes}
 
@@ -21,3 +21,7 @@ words numbers = flat_map (little_bytes 4) numbers
 
 abbrev pub xwords : List ℕ → List ℕ
 xwords numbers = flat_map (little_bytes 8) numbers
+
+-- what stands for so many bytes or entries, if there are any
+abbrev pub if_any : {X : Type 0} → ℕ → X → List X
+if_any count x = if count == 0 then [] else x ∷ []

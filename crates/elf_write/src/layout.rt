@@ -1,9 +1,11 @@
 //! Where the parts of a file stand, and at which addresses they are loaded.
 ghost use Rattle.std.specs.Prelude.{◌≡◌, ◌<◌, ◌≤◌, ◌+◌, ◌*◌, ◌^◌, length};
-ghost use Rattle.elf_write.specs.Layout.{bases_of, present, content_at, sizes_with, segment_count, layout_of, AreSizes, IsInOrder};
+ghost use Rattle.elf_write.specs.Layout.{bases_in, bases_of, present, content_at, sizes_with, rela_count, segment_count, layout_of, AreSizes, IsInOrder};
 ghost use Rattle.elf_write.specs.Places.{rounded_up};
 
-use crate::Module;
+use crate::names::{names_length, table_count};
+use crate::order::relas_for;
+use crate::{Form, Module};
 
 /// The addresses of `.text`, `.rodata`, `.data` and `.bss`.
 #[derive(Clone, Copy, Debug, PartialEq, Eq)]
@@ -14,7 +16,8 @@ pub struct Bases {
     pub bss: u64,
 }
 
-// The sizes of the parts of a module: bytes, but for the symbols.
+// The sizes of the parts of a module: bytes, but for the symbols and the relocations of each
+// section.
 #[derive(Clone, Copy)]
 pub struct Sizes {
     pub text: u64,
@@ -23,6 +26,9 @@ pub struct Sizes {
     pub bss: u64,
     pub symbols: u64,
     pub strings: u64,
+    pub text_relas: u64,
+    pub rodata_relas: u64,
+    pub rwdata_relas: u64,
 }
 
 // The places of the parts of a file, and its end.
@@ -31,6 +37,7 @@ pub struct Layout {
     pub text: u128,
     pub rodata: u128,
     pub rwdata: u128,
+    pub relas: u128,
     pub symtab: u128,
     pub strtab: u128,
     pub shstrtab: u128,
@@ -38,9 +45,11 @@ pub struct Layout {
     pub end: u128,
 }
 
-// The sizes of the parts of a module, their places in the file, and the addresses of the sections.
+// The form of a module, the sizes of its parts, their places in the file, and the addresses of the
+// sections.
 #[derive(Clone, Copy)]
 pub struct Plan {
+    pub form: Form,
     pub sizes: Sizes,
     pub layout: Layout,
     pub bases: Bases,
@@ -56,8 +65,8 @@ fn rounded_up(n: u128, at: u128) -> u128
 }
 
 /// The addresses of the sections, where `.text`, `.rodata` and `.data` have so many bytes: `.text`
-/// at 0x10000, `.rodata` and `.data` each at the first page behind what stands before it, and `.bss`
-/// behind `.data` at a multiple of 8.
+/// at 0x10000, `.rodata` and `.data` each at the first page behind what stands before it, and
+/// `.bss` behind `.data` at a multiple of 8.
 #[tactic(auto, unfolding(crate::specs::Layout::bases_of))]
 pub fn bases_for(text_len: u64, rodata_len: u64, data_len: u64) -> Bases
     requires { (text_len < 2 ^ 60) × (rodata_len < 2 ^ 60) × (data_len < 2 ^ 60) }
@@ -76,6 +85,25 @@ pub fn bases_for(text_len: u64, rodata_len: u64, data_len: u64) -> Bases
     }
 }
 
+/// The addresses of the sections of a module of this form, where `.text`, `.rodata` and `.data`
+/// have so many bytes: all 0 in an object, whose sections are placed when it is linked.
+pub fn bases_in(form: Form, text_len: u64, rodata_len: u64, data_len: u64) -> Bases
+    requires { (text_len < 2 ^ 60) × (rodata_len < 2 ^ 60) × (data_len < 2 ^ 60) }
+    ensures value { result ≡ bases_in form text_len rodata_len data_len }
+    ensures rising { result.rwdata ≤ result.bss }
+    ensures near { result.bss < 0x13008 + text_len + rodata_len + data_len }
+{
+    match form {
+        Form::Exec => bases_for(text_len, rodata_len, data_len),
+        Form::Object => Bases {
+            text: 0,
+            rodata: 0,
+            rwdata: 0,
+            bss: 0,
+        },
+    }
+}
+
 // Whether there is a segment of so many bytes.
 fn present(bytes: u128) -> u128
     ensures value { result ≡ present bytes }
@@ -85,50 +113,65 @@ fn present(bytes: u128) -> u128
 }
 
 // Where so many bytes of contents stand behind a place.
-fn content_at(place: u128, bytes: u64) -> u128
-    requires { place < 2 ^ 100 }
-    ensures value { result ≡ content_at place bytes }
+fn content_at(form: Form, place: u128, bytes: u64) -> u128
+    requires { place < 2 ^ 99 }
+    ensures value { result ≡ content_at form place bytes }
     ensures near { (place ≤ result) × (result < place + 4096) }
 {
-    if bytes == 0 {
-        place
-    } else {
-        rounded_up(4096, place)
+    match form {
+        Form::Exec if bytes == 0 => place,
+        Form::Exec => rounded_up(4096, place),
+        Form::Object => rounded_up(8, place),
     }
 }
 
 // How many segments there are.
-pub fn segment_count(sizes: &Sizes) -> u128
-    ensures value { result ≡ segment_count sizes.now }
+pub fn segment_count(form: Form, sizes: &Sizes) -> u128
+    ensures value { result ≡ segment_count form sizes.now }
     ensures few { result ≤ 3 }
 {
     let memory = u128::from(sizes.rwdata) + u128::from(sizes.bss);
-    present(u128::from(sizes.text)) + present(u128::from(sizes.rodata)) + present(memory)
+    match form {
+        Form::Exec => {
+            present(u128::from(sizes.text)) + present(u128::from(sizes.rodata)) + present(memory)
+        }
+        Form::Object => 0,
+    }
+}
+
+// How many relocations there are.
+fn rela_count(sizes: &Sizes) -> u128
+    ensures value { result ≡ rela_count sizes.now }
+    ensures near { result < 2 ^ 66 }
+{
+    u128::from(sizes.text_relas) + u128::from(sizes.rodata_relas) + u128::from(sizes.rwdata_relas)
 }
 
 // The places of the parts of a file.
 #[tactic(auto, unfolding(crate::specs::Layout::layout_of))]
-pub fn layout_for(sizes: &Sizes) -> Layout
-    ensures value { result ≡ layout_of sizes.now }
+pub fn layout_for(form: Form, sizes: &Sizes) -> Layout
+    ensures value { result ≡ layout_of form sizes.now }
     // They stand in this order.
     ensures order { IsInOrder sizes.now result }
 {
-    let text = content_at(64 + 56 * segment_count(sizes), sizes.text);
-    let rodata = content_at(text + u128::from(sizes.text), sizes.rodata);
-    let rwdata = content_at(rodata + u128::from(sizes.rodata), sizes.rwdata);
-    let symtab = rounded_up(8, rwdata + u128::from(sizes.rwdata));
+    let text = content_at(form, 64 + 56 * segment_count(form, sizes), sizes.text);
+    let rodata = content_at(form, text + u128::from(sizes.text), sizes.rodata);
+    let rwdata = content_at(form, rodata + u128::from(sizes.rodata), sizes.rwdata);
+    let relas = rounded_up(8, rwdata + u128::from(sizes.rwdata));
+    let symtab = relas + 24 * rela_count(sizes);
     let strtab = rounded_up(8, symtab + 24 * (u128::from(sizes.symbols) + 1));
     let shstrtab = rounded_up(8, strtab + u128::from(sizes.strings));
-    let headers = rounded_up(8, shstrtab + 52);
+    let headers = rounded_up(8, shstrtab + u128::from(names_length(sizes)));
     Layout {
         text,
         rodata,
         rwdata,
+        relas,
         symtab,
         strtab,
         shstrtab,
         headers,
-        end: headers + 64 * 8,
+        end: headers + 64 * (8 + u128::from(table_count(sizes))),
     }
 }
 
@@ -145,5 +188,8 @@ pub fn sizes_of(module: &Module, strings: u64) -> Sizes
         bss: module.bss,
         symbols: module.symbols.len() as u64,
         strings,
+        text_relas: relas_for(1, &module.relas) as u64,
+        rodata_relas: relas_for(2, &module.relas) as u64,
+        rwdata_relas: relas_for(3, &module.relas) as u64,
     }
 }

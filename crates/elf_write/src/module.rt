@@ -1,10 +1,11 @@
 //! Modules.
 ghost use Rattle.std.specs.Prelude.{◌≡◌, ◌^◌, ◌-◌, ◌↔◌, min, IsTrue};
 ghost use Rattle.elf_write.specs.Layout.{file_length};
-ghost use Rattle.elf_write.specs.Written.{IsWritable};
+ghost use Rattle.elf_write.specs.Written.{FitsForm, IsWritable};
 
 use crate::layout::{layout_for, sizes_of};
-use crate::parts::{are_locals_first, are_symbols, strings_length};
+use crate::order::{are_by_section, are_in_order, are_linked, undefined};
+use crate::parts::{are_symbols, strings_length};
 use std::marker::Model;
 use wf_outside::Text;
 
@@ -15,10 +16,13 @@ use wf_outside::Text;
 pub enum Form {
     /// A file that is executed, ET_EXEC.
     Exec,
+    /// A file that is still to be linked, ET_REL.
+    Object,
 }
 
-/// A symbol: its name; its section, 1 to 4 for `.text`, `.rodata`, `.data` and `.bss`; its address
-/// and its size in bytes; and whether other files see it.
+/// A symbol: its name; its section, 1 to 4 for `.text`, `.rodata`, `.data` and `.bss`, or 0 where
+/// another file defines it; its address or, in an object, its place in its section, and its size in
+/// bytes; and whether other files see it.
 ///
 /// System V ABI, "Symbol Table".
 #[derive(Drop)]
@@ -43,8 +47,9 @@ pub struct ModRela {
     pub addend: i64,
 }
 
-/// Code and data: the address of the first instruction; the bytes of `.text`, `.rodata` and
-/// `.data`; the size of `.bss` in bytes; the symbols, the local ones first; and the relocations.
+/// Code and data: the address of the first instruction, 0 in an object; the bytes of `.text`,
+/// `.rodata` and `.data`; the size of `.bss` in bytes; the symbols, the local ones first and those
+/// of other files last; and the relocations, by section.
 #[derive(Drop)]
 pub struct Module {
     pub form: Form,
@@ -92,22 +97,29 @@ impl Module {
         ensures { result ≡ min (file_length self.now) (2 ^ 64 - 1) }
     {
         let strings = strings_length(&self.symbols);
-        capped(layout_for(&sizes_of(self, strings)).end)
+        capped(layout_for(self.form, &sizes_of(self, strings)).end)
+    }
+
+    // Whether the module is of its form.
+    fn fits_form(&self) -> bool
+        ensures { IsTrue result ↔ FitsForm self.now.form self.now }
+    {
+        match self.form {
+            Form::Exec => self.relas.is_empty() && undefined(&self.symbols) == 0,
+            Form::Object => self.entry == 0,
+        }
     }
 
     /// Whether the module has a file: what `write` asks for.
     pub fn is_writable(&self) -> bool
         ensures { IsTrue result ↔ IsWritable self.now }
     {
-        if !are_locals_first(&self.symbols) {
-            return false;
-        }
-        if !are_symbols(&self.symbols) {
-            return false;
-        }
-        if !self.relas.is_empty() {
-            return false;
-        }
-        self.bss <= 1 << 32 && self.length() < 1 << 32
+        are_in_order(&self.symbols)
+            && are_symbols(&self.symbols)
+            && are_by_section(&self.relas)
+            && are_linked(self.symbols.len(), &self.relas)
+            && self.fits_form()
+            && self.bss <= 1 << 32
+            && self.length() < 1 << 32
     }
 }

@@ -1,10 +1,10 @@
-//! The names and the symbols in a file.
-ghost use Rattle.std.specs.Prelude.{◌≡◌, ◌<◌, ◌≤◌, ◌+◌, ◌-◌, ◌^◌, ◌++◌, ◌↔◌, length, min, not, All, IsTrue, OnOk, IfOk};
-ghost use Rattle.std.specs.List.{list_all};
-ghost use Rattle.elf_write.specs.Parts.{info_of, locals, name_bytes, strings, symbol_bytes, symbol_table, symbols_from, AreLocalsFirst, IsSymbol};
+//! The names, the symbols and the relocations in a file.
+ghost use Rattle.std.specs.Prelude.{◌≡◌, ◌<◌, ◌+◌, ◌-◌, ◌^◌, ◌++◌, ◌↔◌, length, min, All, IsTrue, OnOk, IfOk};
+ghost use Rattle.std.specs.List.{flat_map};
+ghost use Rattle.elf_write.specs.Parts.{info_of, name_bytes, rela_bytes, strings, symbol_bytes, symbol_table, symbols_from, AreLinked, IsSymbol, IsUndefined};
 
-use crate::ModSymbol;
 use crate::numbers::{put_halves, put_words, put_xwords};
+use crate::{ModRela, ModSymbol};
 use std::alloc::Global;
 use wf_outside::Memory;
 
@@ -65,36 +65,45 @@ pub fn symbol_table(alloc: Global, symbols: &[ModSymbol]) -> Result<Vec<u8>, Mem
     Ok(out)
 }
 
-// How many symbols are local.
-pub fn locals(symbols: &[ModSymbol]) -> usize
-    ensures value { result ≡ length (locals symbols.now) }
-    ensures few { result ≤ length symbols.now }
+// Adds a relocation.
+#[tactic(auto, unfolding(crate::specs::Parts::rela_bytes))]
+fn put_rela(out: &mut Vec<u8>, rela: &ModRela) -> Result<(), Memory>
+    requires { rela.now.symbol + 1 < 2 ^ 32 }
+    ensures { OnOk result (out.new.items ≡ out.old.items ++ rela_bytes rela.now) }
 {
-    symbols.iter().filter(|s| !s.global).count()
+    let info = (u64::from(rela.symbol) + 1) * (1 << 32) + u64::from(rela.kind);
+    put_xwords(out, &[rela.offset, info, rela.addend.cast_unsigned()])
 }
 
-// Each of the symbols is local.
-fn are_local(symbols: &[ModSymbol]) -> bool
-    ensures { result ≡ list_all (λ s. not s.global) symbols.now }
+// The relocations of the sections, one after another.
+pub fn rela_table(alloc: Global, relas: &[ModRela]) -> Result<Vec<u8>, Memory>
+    requires { AreLinked (2 ^ 32 - 1) relas.now }
+    ensures { IfOk result (λ bytes. bytes.items ≡ flat_map rela_bytes relas.now) }
 {
-    symbols.iter().all(|s| !s.global)
+    let mut out = Vec::new(alloc);
+    for rela in relas {
+        put_rela(&mut out, rela)?;
+    }
+    Ok(out)
 }
 
-// The local symbols stand before the others.
-pub fn are_locals_first(symbols: &[ModSymbol]) -> bool
-    ensures { IsTrue result ↔ AreLocalsFirst symbols.now }
+// The symbol is global, and has no value and no size.
+fn is_undefined(symbol: &ModSymbol) -> bool
+    ensures { IsTrue result ↔ IsUndefined symbol.now }
 {
-    are_local(&symbols[..locals(symbols)])
+    symbol.global && symbol.value == 0 && symbol.size == 0
 }
 
-// The symbol stands in a section that is there, and its name has no zero byte.
+// The symbol stands in a section that is there or in another file, and its name has no zero byte.
 fn is_symbol(symbol: &ModSymbol) -> bool
     ensures { IsTrue result ↔ IsSymbol symbol.now }
 {
-    1 <= symbol.section && symbol.section <= 4 && !symbol.name.bytes().contains(&0)
+    symbol.section <= 4
+        && (symbol.section != 0 || is_undefined(symbol))
+        && !symbol.name.bytes().contains(&0)
 }
 
-// Each symbol stands in a section that is there, and no name has a zero byte.
+// Each symbol stands in a section that is there or in another file, and no name has a zero byte.
 pub fn are_symbols(symbols: &[ModSymbol]) -> bool
     ensures { IsTrue result ↔ All IsSymbol symbols.now }
 {

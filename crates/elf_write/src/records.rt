@@ -2,14 +2,18 @@
 ghost use Rattle.std.specs.Prelude.{◌≡◌, ◌<◌, ◌≤◌, ◌+◌, ◌*◌, ◌^◌, ◌++◌, OnOk, IfOk, length};
 ghost use Rattle.std.specs.List.{flat_map};
 ghost use Rattle.elf_write.specs.Layout.{IsInOrder};
-ghost use Rattle.elf_write.specs.Records.{contents, data_memory, if_any, load, null_section, section_back, section_bytes, section_front, symtab_section, segment_bytes};
+ghost use Rattle.elf_write.specs.Records.{contents, data_memory, load, null_section, program_sections, rela_section, rela_sections, section_back, section_bytes, section_front, segment_bytes, symtab_section, table_sections};
+ghost use Rattle.elf_write.specs.Names.{section_names, table_count};
+ghost use Rattle.elf_write.specs.Places.{if_any};
 ghost use Rattle.elf_write.specs.Written.{sections_in, segments_in};
 
-use crate::constants::{SHF_ALLOC, SHF_EXECINSTR, SHF_WRITE};
-use crate::layout::{Bases, Plan, Sizes};
+use crate::Form;
+use crate::constants::{SHF_ALLOC, SHF_EXECINSTR, SHF_INFO_LINK, SHF_WRITE};
+use crate::layout::{Bases, Layout, Plan, Sizes};
+use crate::names::{name_places, names_length, table_count};
 use crate::numbers::{put_words, put_xwords};
 use elf_read::constants::{
-    PF_R, PF_W, PF_X, PT_LOAD, SHT_NOBITS, SHT_NULL, SHT_PROGBITS, SHT_STRTAB, SHT_SYMTAB,
+    PF_R, PF_W, PF_X, PT_LOAD, SHT_NOBITS, SHT_NULL, SHT_PROGBITS, SHT_RELA, SHT_STRTAB, SHT_SYMTAB,
 };
 use elf_read::{Section, Segment};
 use std::alloc::Global;
@@ -118,9 +122,10 @@ fn data_memory(sizes: &Sizes, bases: &Bases) -> u64
     }
 }
 
-// The segments.
+// The segments of an executable file.
 #[tactic(auto, unfolding(crate::specs::Records::segments_of))]
-pub fn segments(alloc: Global, plan: &Plan) -> Result<Vec<Segment>, Memory>
+fn exec_segments(alloc: Global, plan: &Plan) -> Result<Vec<Segment>, Memory>
+    requires form { plan.now.form ≡ Form.Exec }
     requires order { IsInOrder plan.now.sizes plan.now.layout }
     requires short { (plan.now.layout.end < 2 ^ 32) × (plan.now.sizes.bss ≤ 2 ^ 32) }
     requires memory { (plan.now.bases.rwdata ≤ plan.now.bases.bss) × (plan.now.bases.bss < 2 ^ 35) }
@@ -139,6 +144,21 @@ pub fn segments(alloc: Global, plan: &Plan) -> Result<Vec<Segment>, Memory>
     let variables = load(PF_R + PF_W, rwdata_at, bases.rwdata, rwdata, memory);
     push_any(&mut out, rwdata + sizes.bss, variables)?;
     Ok(out)
+}
+
+// The segments.
+#[tactic(auto, unfolding(crate::specs::Records::segments_of))]
+pub fn segments(alloc: Global, plan: &Plan) -> Result<Vec<Segment>, Memory>
+    requires order { IsInOrder plan.now.sizes plan.now.layout }
+    requires short { (plan.now.layout.end < 2 ^ 32) × (plan.now.sizes.bss ≤ 2 ^ 32) }
+    requires memory { (plan.now.bases.rwdata ≤ plan.now.bases.bss) × (plan.now.bases.bss < 2 ^ 35) }
+    ensures value { IfOk result (λ segments. segments.items ≡ segments_in plan.now) }
+    ensures few { IfOk result (λ segments. length segments.items ≤ 3) }
+{
+    match plan.form {
+        Form::Exec => exec_segments(alloc, plan),
+        Form::Object => Ok(Vec::new(alloc)),
+    }
 }
 
 // A section that is loaded, or one with names.
@@ -177,39 +197,57 @@ fn null_section() -> Section
     }
 }
 
-// .symtab, in which so many symbols behind symbol 0 are local.
-fn symtab_section(offset: u64, size: u64, locals: u32) -> Section
-    requires { locals + 1 < 2 ^ 32 }
-    ensures { result ≡ symtab_section offset size locals }
+// .symtab, behind so many sections of relocations, in which so many symbols behind symbol 0 are
+// local.
+fn symtab_section(tables: u32, name: u32, offset: u64, size: u64, locals: u32) -> Section
+    requires { (tables ≤ 3) × (locals + 1 < 2 ^ 32) }
+    ensures { result ≡ symtab_section tables name offset size locals }
 {
     Section {
-        sh_name: 26,
+        sh_name: name,
         sh_type: SHT_SYMTAB,
         sh_flags: 0,
         sh_addr: 0,
         sh_offset: offset,
         sh_size: size,
-        sh_link: 6,
+        sh_link: 6 + tables,
         sh_info: 1 + locals,
         sh_addralign: 8,
         sh_entsize: 24,
     }
 }
 
-// The sections.
-#[tactic(auto, unfolding(crate::specs::Records::sections_of))]
-pub fn sections(plan: &Plan, locals: u32) -> [Section; 8]
-    requires order { IsInOrder plan.now.sizes plan.now.layout }
-    requires few { (plan.now.layout.end < 2 ^ 32) × (locals + 1 < 2 ^ 32) }
-    ensures { result ≡ sections_in plan.now locals }
+// A section of so many relocations.
+fn rela_section(tables: u32, name: u32, offset: u64, count: u64, target: u32) -> Section
+    requires { (tables ≤ 3) × (24 * count < 2 ^ 64) }
+    ensures { result ≡ rela_section tables name offset count target }
 {
-    let (sizes, layout, bases) = (&plan.sizes, &plan.layout, &plan.bases);
+    Section {
+        sh_name: name,
+        sh_type: SHT_RELA,
+        sh_flags: SHF_INFO_LINK,
+        sh_addr: 0,
+        sh_offset: offset,
+        sh_size: 24 * count,
+        sh_link: 5 + tables,
+        sh_info: target,
+        sh_addralign: 8,
+        sh_entsize: 24,
+    }
+}
+
+// The sections that the program has.
+#[tactic(auto, unfolding(crate::specs::Records::program_sections))]
+fn program_sections(sizes: &Sizes, layout: &Layout, bases: &Bases) -> [Section; 5]
+    requires order { IsInOrder sizes.now layout.now }
+    requires short { layout.now.end < 2 ^ 32 }
+    ensures { result ≡ program_sections sizes.now layout.now bases.now }
+{
     let (text, rodata) = (layout.text as u64, layout.rodata as u64);
     let rwdata = layout.rwdata as u64;
     let constants = SHF_ALLOC;
     let variables = SHF_WRITE + SHF_ALLOC;
     let code = SHF_ALLOC + SHF_EXECINSTR;
-    let symbols = 24 * (sizes.symbols + 1);
     [
         null_section(),
         contents(1, SHT_PROGBITS, code, bases.text, text, sizes.text),
@@ -237,8 +275,68 @@ pub fn sections(plan: &Plan, locals: u32) -> [Section; 8]
             rwdata + sizes.rwdata,
             sizes.bss,
         ),
-        symtab_section(layout.symtab as u64, symbols, locals),
-        contents(34, SHT_STRTAB, 0, 0, layout.strtab as u64, sizes.strings),
-        contents(42, SHT_STRTAB, 0, 0, layout.shstrtab as u64, 52),
     ]
+}
+
+// Adds the section, if it has entries.
+fn push_table(out: &mut Vec<Section>, count: u64, section: Section) -> Result<(), Memory>
+    ensures { OnOk result (out.new.items ≡ out.old.items ++ if_any count section) }
+{
+    if count != 0 {
+        out.push(section)?;
+    }
+    Ok(())
+}
+
+// Adds the sections of relocations.
+#[tactic(auto, unfolding(crate::specs::Records::rela_sections))]
+fn push_rela_sections(out: &mut Vec<Section>, sizes: &Sizes, layout: &Layout) -> Result<(), Memory>
+    requires order { IsInOrder sizes.now layout.now }
+    requires short { layout.now.end < 2 ^ 32 }
+    ensures { OnOk result (out.new.items ≡ out.old.items ++ rela_sections sizes.now layout.now) }
+{
+    let (text, rodata, rwdata) = (sizes.text_relas, sizes.rodata_relas, sizes.rwdata_relas);
+    let tables = table_count(sizes);
+    let names = name_places(sizes);
+    let at = layout.relas as u64;
+    let text_section = rela_section(tables, 26, at, text, 1);
+    push_table(out, text, text_section)?;
+    let at = at + 24 * text;
+    let rodata_section = rela_section(tables, names.rodata, at, rodata, 2);
+    push_table(out, rodata, rodata_section)?;
+    let at = at + 24 * rodata;
+    let rwdata_section = rela_section(tables, names.rwdata, at, rwdata, 3);
+    push_table(out, rwdata, rwdata_section)
+}
+
+// .symtab, .strtab and .shstrtab.
+#[tactic(auto, unfolding(crate::specs::Records::table_sections))]
+fn table_sections(sizes: &Sizes, layout: &Layout, locals: u32) -> [Section; 3]
+    requires order { IsInOrder sizes.now layout.now }
+    requires few { (layout.now.end < 2 ^ 32) × (locals + 1 < 2 ^ 32) }
+    ensures { result ≡ table_sections sizes.now layout.now locals }
+{
+    let name = name_places(sizes).symtab;
+    let symtab = layout.symtab as u64;
+    let symbols = 24 * (sizes.symbols + 1);
+    let (strtab, shstrtab) = (layout.strtab as u64, layout.shstrtab as u64);
+    let names = u64::from(names_length(sizes));
+    [
+        symtab_section(table_count(sizes), name, symtab, symbols, locals),
+        contents(name + 8, SHT_STRTAB, 0, 0, strtab, sizes.strings),
+        contents(name + 16, SHT_STRTAB, 0, 0, shstrtab, names),
+    ]
+}
+
+// The sections.
+pub fn sections(alloc: Global, plan: &Plan, locals: u32) -> Result<Vec<Section>, Memory>
+    requires order { IsInOrder plan.now.sizes plan.now.layout }
+    requires few { (plan.now.layout.end < 2 ^ 32) × (locals + 1 < 2 ^ 32) }
+    ensures { IfOk result (λ sections. sections.items ≡ sections_in plan.now locals) }
+{
+    let (sizes, layout) = (&plan.sizes, &plan.layout);
+    let mut out = program_sections(sizes, layout, &plan.bases).to_vec(alloc)?;
+    push_rela_sections(&mut out, sizes, layout)?;
+    out.extend_from_slice(&table_sections(sizes, layout, locals))?;
+    Ok(out)
 }

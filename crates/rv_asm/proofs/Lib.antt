@@ -1,9 +1,13 @@
 pub mod AgreeLemmas
 pub mod DoneLemmas
 pub mod FirstLemmas
+pub mod LinkLemmas
 pub mod ModuleLemmas
+pub mod NameLemmas
+pub mod NamedLemmas
 pub mod NarrowLemmas
 pub mod PlaceLemmas
 pub mod PutLemmas
 pub mod SecondLemmas
 pub mod SymbolLemmas
+pub mod WritableLemmas

@@ -1,94 +1,145 @@
--- What the module of a draft keeps.
-use Rattle.std.proofs.Common.{◌≡◌, ◌≢◌, ◌<◌, ◌≤◌, ◌^◌, [], ◌∷◌, ◌++◌, ℕ, suc, List, Bool, true, false, cond, length, Result, Ok, Err, refl, sym, ap, subst, ◌∙◌, arith, inl, inr}
-use Rattle.std.specs.Prelude.{map, nat_lt, not}
-use Rattle.std.specs.List.{AllByRecursion, filter}
-use Rattle.std.specs.Result.{IfOk}
+-- What the symbols and uses of a draft keep.
+use Rattle.std.proofs.Common.{◌≡◌, ◌<◌, ◌≤◌, ◌^◌, [], ◌∷◌, ℕ, suc, List, cond, true, false, Ok, refl, sym, ap, subst, ◌∙◌, arith, inl, inr}
+use Rattle.std.specs.Prelude.{map}
+use Rattle.std.specs.List.{AllByRecursion}
+use Rattle.std.specs.Str.{bytes_eq}
 use Rattle.std.proofs.lemmas.Bool.{cases_Bool}
-use Rattle.std.proofs.lemmas.Bool.Decides.{nat_tests}
-use Rattle.std.proofs.lemmas.List.Elements.{filter-append}
 use Rattle.asm_lines.specs.declared.statement.SectionId.{SectionId}
 use Rattle.asm_lines.specs.declared.statement.SectionId.TheVariants as section
 use Rattle.asm_lines.specs.Lines.{LineValue, line_of}
 use Rattle.elf_write.specs.declared.module.Form.{Form}
+use Rattle.elf_write.specs.declared.module.Form.TheVariants.{Exec, Object}
 use Rattle.elf_write.specs.declared.module.ModSymbol.{ModSymbol}
-use Rattle.elf_write.specs.Layout.{bases_of, file_length}
-use Rattle.elf_write.specs.Modules.{ModuleValue}
-use Rattle.elf_write.specs.Parts.{IsSymbol, globals, locals}
-use Rattle.elf_write.specs.Written.{IsWritable}
-use Rattle.wf_outside.proofs.RisingLemmas.{all_at}
-use Rattle.wf_text.specs.Lines.{lines_of}
-use Rattle.rv_asm.specs.declared.fault.AsmFault.{AsmFault}
-use Rattle.rv_asm.specs.declared.fault.AsmFault.TheVariants as fault
+use Rattle.elf_write.specs.Layout.{bases_of}
 use Rattle.rv_asm.specs.declared.fault.AsmRule.TheVariants as rule
 use Rattle.rv_asm.specs.declared.first_pass.Survey.{Survey}
 use Rattle.rv_asm.specs.declared.sizes.SectionSizes.{SectionSizes}
-use Rattle.rv_asm.specs.Answers.{Answers, IsFaultOf, or_at}
-use Rattle.rv_asm.specs.Assembled.{assembled, fitting, module_of}
-use Rattle.rv_asm.specs.Drafts.{AreNarrow, IsNarrow}
+use Rattle.rv_asm.specs.Answers.{or_at}
+use Rattle.rv_asm.specs.Drafts.{AreNarrow, IsNarrow, label_names, symbol_names}
 use Rattle.rv_asm.specs.FirstPass.{start, surveyed}
-use Rattle.rv_asm.specs.Labels.{LabelValue, section_number}
+use Rattle.rv_asm.specs.Labels.{LabelValue, as_global, changed, of_size, section_number}
 use Rattle.rv_asm.specs.SecondPass.{DraftValue, base_of, blank, done, drafted, drafted_line, here, lengths, symbol_of}
-use Rattle.rv_asm.proofs.AgreeLemmas.{AreShort, IsNear, Stays, all_done, bind_ok, done_step, drawn_same, offset_is, passes_agree, size_short}
-use Rattle.rv_asm.proofs.FirstLemmas.{bind_fault}
+use Rattle.rv_asm.specs.Uses.{AreCloseUses, IsPlainName}
+use Rattle.rv_asm.proofs.AgreeLemmas.{Agree, AreShort, IsNear, Kept, Stays, all_done, bind_ok, done_step, drawn_same, kept_on, kept_same, offset_is, passes_agree, size_short}
 
 -- ---- addresses are low
 
-base_low : (z : SectionSizes) (id : SectionId) → AreShort z → base_of z id < 2 ^ 40
+base_low : (form : Form) (z : SectionSizes) (id : SectionId) → AreShort z → base_of form z id < 2 ^ 40
 unfolding base_of bases_of
-base_low z section.Text h = let a = h.text in omega arith
-base_low z section.Rodata h = let a = h.text in omega arith
-base_low z section.Data h = let a = h.text in let b = h.rodata in omega arith
-base_low z section.Bss h = let a = h.text in let b = h.rodata in let c = h.rwdata in omega arith
+base_low Exec z section.Text h = let a = h.text in omega arith
+base_low Exec z section.Rodata h = let a = h.text in omega arith
+base_low Exec z section.Data h = let a = h.text in let b = h.rodata in omega arith
+base_low Exec z section.Bss h = let a = h.text in let b = h.rodata in let c = h.rwdata in omega arith
+base_low Object z section.Text h = omega arith
+base_low Object z section.Rodata h = omega arith
+base_low Object z section.Data h = omega arith
+base_low Object z section.Bss h = omega arith
 
 here_low : (d : DraftValue) → AreShort d.sizes → AreShort (lengths d) → here d < 2 ^ 64
 unfolding here
 here_low d h k =
-    let base = base_low d.sizes d.section h in
+    let base = base_low d.form d.sizes d.section h in
     let offset = size_short (lengths d) d.section k in
     let same = offset_is d d.section in
     omega arith
 
--- ---- what holds of each symbol holds in the end
+-- ---- what holds of the symbols holds in the end
 
-all_drafted : (P : ModSymbol → Type 0) → Stays P → (number : ℕ) (lines : List (List ℕ)) (d e : DraftValue) → AreShort d.sizes → AreShort (lengths d) → AllByRecursion P d.symbols → drafted number lines d ≡ Ok e
-    → AllByRecursion P e.symbols
+pub record Drafted (P : List ModSymbol → Type 0) (d e : DraftValue) : Type 0 where
+  pub symbols : P e.symbols
+  pub kept : Kept d e
+
+all_drafted : (P : List ModSymbol → Type 0) → Stays P → (number : ℕ) (lines : List (List ℕ)) (d e : DraftValue) → AreShort d.sizes → AreShort (lengths d) → P d.symbols → drafted number lines d ≡ Ok e → Drafted P d e
 unfolding drafted drafted_line
-all_drafted P stays number [] d e h k all made = let same = drawn_same d e made in subst (λ (u : DraftValue). AllByRecursion P u.symbols) same all
+all_drafted P stays number [] d e h k all made = let same = drawn_same d e made in subst (λ (u : DraftValue). Drafted P d u) same (record { symbols = all; kept = kept_same d })
 all_drafted P stays number (text ∷ lines) d e h k all made =
     let a = bind_ok (drafted_line number text d) (λ (u : DraftValue). drafted (suc number) lines u) e made in
     let b = bind_ok (or_at number rule.Syntax (line_of text)) (λ (l : LineValue). done number l.asked d) a.0 a.1 in
     let step = done_step number b.0.asked d a.0 k b.2 in
-    all_drafted P stays (suc number) lines a.0 e (subst AreShort (sym step.sizes) h) step.short (all_done P stays number b.0.asked d a.0 (here_low d h k) all b.2) a.2
+    let rest = all_drafted P stays (suc number) lines a.0 e (subst AreShort (sym step.kept.sizes) h) step.short (all_done P stays number b.0.asked d a.0 (here_low d h k) all b.2) a.2 in
+    record { symbols = rest.symbols; kept = kept_on d a.0 e step.kept rest.kept }
 
-all_blank : (P : ModSymbol → Type 0) (z : SectionSizes) → ((l : LabelValue) → IsNear l → P (symbol_of z l)) → (labels : List LabelValue) → AllByRecursion IsNear labels → AllByRecursion P (map (symbol_of z) labels)
-all_blank P z each [] near = tt
-all_blank P z each (l ∷ ls) near = (each l near.0, all_blank P z each ls near.1)
+-- what a source has that both passes read, with these names for local labels
+pub record IsRead (form : Form) (names lines : List (List ℕ)) (s : Survey) (d : DraftValue) : Type 0 where
+  pub plain : AllByRecursion IsPlainName names
+  pub first : surveyed form names 1 lines start ≡ Ok s
+  pub second : drafted 1 lines (blank form s) ≡ Ok d
 
-all_symbols : (P : ModSymbol → Type 0) → Stays P → (lines : List (List ℕ)) (s : Survey) (d : DraftValue) → surveyed 1 lines start ≡ Ok s → drafted 1 lines (blank s) ≡ Ok d
-    → ((l : LabelValue) → IsNear l → AreShort s.sizes → P (symbol_of s.sizes l)) → AllByRecursion P d.symbols
-all_symbols P stays lines s d first second each =
-    let agree = passes_agree lines s d first second in
-    let short : AreShort s.sizes = subst AreShort agree.sizes agree.short in
-    all_drafted P stays 1 lines (blank s) d short (record { text = omega arith; rodata = omega arith; rwdata = omega arith; bss = omega arith })
-    (all_blank P s.sizes (λ l near. each l near short) s.labels agree.labels) second
+-- by names that are these
+pub is_read : (form : Form) (names plain lines : List (List ℕ)) (s : Survey) (d : DraftValue) → names ≡ plain → AllByRecursion IsPlainName plain → surveyed form names 1 lines start ≡ Ok s → drafted 1 lines (blank form s) ≡ Ok d
+    → IsRead form plain lines s d
+is_read form names plain lines s d e all first second = record { plain = all; first = ap (λ (ns : List (List ℕ)). surveyed form ns 1 lines start) (sym e) ∙ first; second = second }
+
+pub agreed : (form : Form) (names lines : List (List ℕ)) (s : Survey) (d : DraftValue) → IsRead form names lines s d → Agree form s d
+agreed form names lines s d read = passes_agree form names lines s d read.plain read.first read.second
+
+surveyed_short : (form : Form) (names lines : List (List ℕ)) (s : Survey) (d : DraftValue) → IsRead form names lines s d → AreShort s.sizes
+surveyed_short form names lines s d read = let agree = agreed form names lines s d read in subst AreShort agree.sizes agree.short
+
+all_read : (P : List ModSymbol → Type 0) → Stays P → (form : Form) (names lines : List (List ℕ)) (s : Survey) (d : DraftValue) → IsRead form names lines s d → P (map (symbol_of form s.sizes) s.labels) → Drafted P (blank form s) d
+all_read P stays form names lines s d read all =
+    all_drafted P stays 1 lines (blank form s) d (surveyed_short form names lines s d read) (record { text = omega arith; rodata = omega arith; rwdata = omega arith; bss = omega arith }) all read.second
+
+-- ---- what holds of each symbol
+
+-- a fact of a symbol that stays when others see it, and when its size is counted
+record StaysOfEach (P : ModSymbol → Type 0) : Type 0 where
+  global : (s : ModSymbol) → P s → P (as_global s)
+  size : (s : ModSymbol) (n : ℕ) → n < 2 ^ 64 → P s → P (of_size n s)
+
+all_changed : (P : ModSymbol → Type 0) (name : List ℕ) (f : ModSymbol → ModSymbol) → ((s : ModSymbol) → P s → P (f s)) → (ss : List ModSymbol) → AllByRecursion P ss → AllByRecursion P (changed name f ss)
+all_changed P name f keeps [] all = tt
+all_changed P name f keeps (s ∷ ss) all =
+    elim (bytes_eq s.name name) as (λ v. AllByRecursion P (cond v (f s ∷ ss) (s ∷ changed name f ss))) [
+      | true ↦ (keeps s all.0, all.1)
+      | false ↦ (all.0, all_changed P name f keeps ss all.1)
+    ]
+
+each_stays : (P : ModSymbol → Type 0) → StaysOfEach P → Stays (AllByRecursion P)
+each_stays P stays = record {
+  global = λ name ss all. all_changed P name as_global stays.global ss all;
+  size = λ name n ss h all. all_changed P name (of_size n) (λ s p. stays.size s n h p) ss all;
+}
+
+each_blank : (P : ModSymbol → Type 0) (form : Form) (z : SectionSizes) → ((l : LabelValue) → IsNear l → P (symbol_of form z l)) → (labels : List LabelValue) → AllByRecursion IsNear labels → AllByRecursion P (map (symbol_of form z) labels)
+each_blank P form z each [] near = tt
+each_blank P form z each (l ∷ ls) near = (each l near.0, each_blank P form z each ls near.1)
+
+each_read : (P : ModSymbol → Type 0) → StaysOfEach P → (form : Form) (names lines : List (List ℕ)) (s : Survey) (d : DraftValue) → IsRead form names lines s d
+    → ((l : LabelValue) → IsNear l → AreShort s.sizes → P (symbol_of form s.sizes l)) → Drafted (AllByRecursion P) (blank form s) d
+each_read P stays form names lines s d read each =
+    all_read (AllByRecursion P) (each_stays P stays) form names lines s d read
+    (each_blank P form s.sizes (λ l near. each l near (surveyed_short form names lines s d read)) s.labels (agreed form names lines s d read).labels)
 
 -- ---- numbers of 64 bits
 
-narrow_stays : Stays IsNarrow
+narrow_stays : StaysOfEach IsNarrow
 narrow_stays = record {
   global = λ s p. record { value = p.value; size = p.size };
   size = λ s n h p. record { value = p.value; size = h };
 }
 
-pub narrow : (lines : List (List ℕ)) (s : Survey) (d : DraftValue) → surveyed 1 lines start ≡ Ok s → drafted 1 lines (blank s) ≡ Ok d → AreNarrow d.symbols
-narrow lines s d first second =
-    all_symbols IsNarrow narrow_stays lines s d first second
+are_narrow : (form : Form) (names lines : List (List ℕ)) (s : Survey) (d : DraftValue) → IsRead form names lines s d → Drafted AreNarrow (blank form s) d
+are_narrow form names lines s d read =
+    each_read IsNarrow narrow_stays form names lines s d read
     (λ l near short. record {
-      value = let base = base_low s.sizes l.section short in let offset = near.offset in omega arith;
+      value = let base = base_low form s.sizes l.section short in let offset = near.offset in omega arith;
       size = omega arith;
     })
 
--- ---- a module has a file
+pub narrow : (form : Form) (names lines : List (List ℕ)) (s : Survey) (d : DraftValue) → IsRead form names lines s d → AreNarrow d.symbols
+narrow form names lines s d read = (are_narrow form names lines s d read).symbols
+
+pub close : (form : Form) (names lines : List (List ℕ)) (s : Survey) (d : DraftValue) → IsRead form names lines s d → AreCloseUses d.uses
+close form names lines s d read = subst AreCloseUses (sym (are_narrow form names lines s d read).kept.uses) (agreed form names lines s d read).uses
+
+-- ---- symbols of sections
+
+-- a symbol of a section
+pub record IsHome (s : ModSymbol) : Type 0 where
+  pub above : 1 ≤ s.section
+  pub below : s.section ≤ 4
+  pub named : IsPlainName s.name
 
 is_section : (id : SectionId) → (1 ≤ section_number id) × (section_number id ≤ 4)
 is_section section.Text = (omega arith, omega arith)
@@ -96,116 +147,46 @@ is_section section.Rodata = (omega arith, omega arith)
 is_section section.Data = (omega arith, omega arith)
 is_section section.Bss = (omega arith, omega arith)
 
-symbol_stays : Stays IsSymbol
-symbol_stays = record {
-  global = λ s p. record { after_null = p.after_null; before_symtab = p.before_symtab; named = p.named };
-  size = λ s n h p. record { after_null = p.after_null; before_symtab = p.before_symtab; named = p.named };
+home_stays : StaysOfEach IsHome
+home_stays = record {
+  global = λ s p. record { above = p.above; below = p.below; named = p.named };
+  size = λ s n h p. record { above = p.above; below = p.below; named = p.named };
 }
 
-are_symbols : (lines : List (List ℕ)) (s : Survey) (d : DraftValue) → surveyed 1 lines start ≡ Ok s → drafted 1 lines (blank s) ≡ Ok d → AllByRecursion IsSymbol d.symbols
-are_symbols lines s d first second =
-    all_symbols IsSymbol symbol_stays lines s d first second
+pub are_home : (form : Form) (names lines : List (List ℕ)) (s : Survey) (d : DraftValue) → IsRead form names lines s d → Drafted (AllByRecursion IsHome) (blank form s) d
+are_home form names lines s d read =
+    each_read IsHome home_stays form names lines s d read
     (λ l near short. record {
-      after_null = (is_section l.section).0;
-      before_symtab = (is_section l.section).1;
-      named = λ k b h. all_at (λ (c : ℕ). c ≢ 0) l.name k b near.named h;
+      above = (is_section l.section).0;
+      below = (is_section l.section).1;
+      named = near.named;
     })
 
-all_filter : {X : Type 0} (P : X → Type 0) (p : X → Bool) (xs : List X) → AllByRecursion P xs → AllByRecursion P (filter p xs)
-all_filter P p [] all = tt
-all_filter P p (x ∷ xs) all = elim (p x) as (λ v. AllByRecursion P (cond v (x ∷ filter p xs) (filter p xs))) [ true ↦ (all.0, all_filter P p xs all.1) | false ↦ all_filter P p xs all.1 ]
+-- ---- the names of symbols
 
-all_append : {X : Type 0} (P : X → Type 0) (xs ys : List X) → AllByRecursion P xs → AllByRecursion P ys → AllByRecursion P (xs ++ ys)
-all_append P [] ys a b = b
-all_append P (x ∷ xs) ys a b = (a.0, all_append P xs ys a.1 b)
-
-filter_again : {X : Type 0} (p : X → Bool) (xs : List X) → filter p (filter p xs) ≡ filter p xs
-filter_again p [] = refl
-filter_again p (x ∷ xs) =
-    elim (cases_Bool (p x)) [
-      | inl t ↦ rw t (rw t (ap (λ (ys : List _). x ∷ ys) (filter_again p xs)))
-      | inr t ↦ rw t (filter_again p xs)
+names_changed : (name : List ℕ) (f : ModSymbol → ModSymbol) → ((s : ModSymbol) → (f s).name ≡ s.name) → (ss : List ModSymbol) → symbol_names (changed name f ss) ≡ symbol_names ss
+names_changed name f keeps [] = refl
+names_changed name f keeps (s ∷ ss) =
+    elim (cases_Bool (bytes_eq s.name name)) [
+      | inl t ↦ rw t (ap (λ (n : List ℕ). n ∷ symbol_names ss) (keeps s))
+      | inr t ↦ rw t (ap (λ (ns : List (List ℕ)). s.name ∷ ns) (names_changed name f keeps ss))
     ]
 
-filter_other : {X : Type 0} (p q : X → Bool) (xs : List X) → ((x : X) → p x ≡ true → q x ≡ false) → filter q (filter p xs) ≡ []
-filter_other p q [] apart = refl
-filter_other p q (x ∷ xs) apart =
-    elim (cases_Bool (p x)) [
-      | inl t ↦ rw (t, apart x t) (filter_other p q xs apart)
-      | inr t ↦ rw t (filter_other p q xs apart)
-    ]
+abbrev HaveNames : List (List ℕ) → List ModSymbol → Type 0
+HaveNames names ss = symbol_names ss ≡ names
 
-nothing_behind : (xs : List ModSymbol) → xs ++ [] ≡ xs
-nothing_behind [] = refl
-nothing_behind (x ∷ xs) = ap (λ (ys : List ModSymbol). x ∷ ys) (nothing_behind xs)
+names_stay : (names : List (List ℕ)) → Stays (HaveNames names)
+names_stay names = record {
+  global = λ name ss e. names_changed name as_global (λ s. refl) ss ∙ e;
+  size = λ name n ss h e. names_changed name (of_size n) (λ s. refl) ss ∙ e;
+}
 
-not_true : (b : Bool) → not b ≡ true → b ≡ false
-not_true true e = absurd cc
-not_true false e = refl
+names_blank : (form : Form) (z : SectionSizes) (labels : List LabelValue) → symbol_names (map (symbol_of form z) labels) ≡ label_names labels
+names_blank form z [] = refl
+names_blank form z (l ∷ ls) = ap (λ (ns : List (List ℕ)). l.name ∷ ns) (names_blank form z ls)
 
-not_false : (b : Bool) → b ≡ true → not b ≡ false
-not_false true e = refl
-not_false false e = absurd cc
-
-in_order : (ss : List ModSymbol) → locals ss ++ globals ss ≡ locals (locals ss ++ globals ss) ++ filter (λ s. s.global) (locals ss ++ globals ss)
-in_order ss =
-    let p : ModSymbol → Bool = λ s. not s.global in
-    let q : ModSymbol → Bool = λ s. s.global in
-    let l : filter p (filter p ss ++ filter q ss) ≡ filter p ss =
-    filter-append p (filter p ss) (filter q ss) ∙ ap (λ (xs : List ModSymbol). xs ++ filter p (filter q ss)) (filter_again p ss)
-    ∙ ap (λ (xs : List ModSymbol). filter p ss ++ xs) (filter_other q p ss (λ s. not_false s.global)) ∙ nothing_behind (filter p ss) in
-    let g : filter q (filter p ss ++ filter q ss) ≡ filter q ss =
-    filter-append q (filter p ss) (filter q ss) ∙ ap (λ (xs : List ModSymbol). xs ++ filter q (filter q ss)) (filter_other p q ss (λ s. not_true s.global)) ∙ filter_again q ss in
-    sym (ap (λ (xs : List ModSymbol). xs ++ filter q (filter p ss ++ filter q ss)) l ∙ ap (λ (xs : List ModSymbol). filter p ss ++ xs) g)
-
-pub writable : (form : Form) (lines : List (List ℕ)) (s : Survey) (d : DraftValue) → surveyed 1 lines start ≡ Ok s → drafted 1 lines (blank s) ≡ Ok d → file_length (module_of form d) < 2 ^ 32 → IsWritable (module_of form d)
-unfolding module_of
-writable form lines s d first second short =
-    let agree = passes_agree lines s d first second in
-    let all = are_symbols lines s d first second in
-    record {
-      order = in_order d.symbols;
-      symbols = λ k u h. all_at IsSymbol (locals d.symbols ++ globals d.symbols) k u
-          (all_append IsSymbol (locals d.symbols) (globals d.symbols) (all_filter IsSymbol (λ t. not t.global) d.symbols all) (all_filter IsSymbol (λ t. t.global) d.symbols all)) h;
-      relas = refl;
-      bss = agree.short.bss;
-      length = short;
-    }
-
-abbrev moduled : ModuleValue → Result ModuleValue AsmFault
-moduled m = Ok m
-
-moduled_same : (m n : ModuleValue) → moduled m ≡ moduled n → m ≡ n
-moduled_same m n e = cc
-
-fitting_ok : (last : ℕ) (m n : ModuleValue) → fitting last m ≡ Ok n → (m ≡ n) × (file_length m < 2 ^ 32)
-unfolding fitting
-fitting_ok last m n e =
-    elim (cases_Bool (nat_lt (file_length m) (2 ^ 32))) [
-      | inl t ↦ let same : moduled m ≡ moduled n = rw t at e in (moduled_same m n same, grind (arith, nat_tests))
-      | inr t ↦ let bad : Err (fault.At last rule.Range) ≡ moduled n = rw t at e in absurd cc
-    ]
-
--- ---- what assemble answers
-
-pub answer_writable : (r : Result ModuleValue AsmFault) (form : Form) (last : ℕ) (lines : List (List ℕ)) (s : Survey) (d : DraftValue) (m : ModuleValue) → surveyed 1 lines start ≡ Ok s → drafted 1 lines (blank s) ≡ Ok d
-    → m ≡ module_of form d → Answers (λ n. n) r (fitting last m) → IfOk r IsWritable
-answer_writable (Err e) form last lines s d m first second made answers = tt
-answer_writable (Ok n) form last lines s d m first second made answers =
-    let fits = fitting_ok last m n answers in
-    subst IsWritable (sym made ∙ fits.0) (writable form lines s d first second (subst (λ (k : ModuleValue). file_length k < 2 ^ 32) made fits.1))
-
-pub answer_is : (r : Result ModuleValue AsmFault) (form : Form) (source : List ℕ) (s : Survey) (d : DraftValue) (m : ModuleValue) → surveyed 1 (lines_of source) start ≡ Ok s → drafted 1 (lines_of source) (blank s) ≡ Ok d
-    → m ≡ module_of form d → Answers (λ n. n) r (fitting (length (lines_of source)) m) → Answers (λ n. n) r (assembled form source)
-unfolding assembled
-answer_is r form source s d m first second made answers =
-    let is : fitting (length (lines_of source)) m ≡ assembled form source = ap (fitting (length (lines_of source))) made ∙ sym (rw (first, second) refl) in
-    subst (λ (a : Result ModuleValue AsmFault). Answers (λ n. n) r a) is answers
-
-pub first_fault : (form : Form) (source : List ℕ) (e : AsmFault) → IsFaultOf e (surveyed 1 (lines_of source) start) → IsFaultOf e (assembled form source)
-unfolding assembled
-first_fault form source e h = bind_fault e (surveyed 1 (lines_of source) start) _ h
-
-pub second_fault : (form : Form) (source : List ℕ) (s : Survey) (e : AsmFault) → surveyed 1 (lines_of source) start ≡ Ok s → IsFaultOf e (drafted 1 (lines_of source) (blank s)) → IsFaultOf e (assembled form source)
-unfolding assembled
-second_fault form source s e first h = rw first (bind_fault e (drafted 1 (lines_of source) (blank s)) _ h)
+-- each symbol has the name of its label
+pub same_names : (form : Form) (names lines : List (List ℕ)) (s : Survey) (d : DraftValue) → IsRead form names lines s d → symbol_names d.symbols ≡ label_names d.labels
+same_names form names lines s d read =
+    let whole = all_read (HaveNames (label_names s.labels)) (names_stay (label_names s.labels)) form names lines s d read (names_blank form s.sizes s.labels) in
+    whole.symbols ∙ ap label_names (sym whole.kept.labels)

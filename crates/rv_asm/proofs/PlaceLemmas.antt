@@ -28,14 +28,14 @@ pub place_within : (name : List ℕ) (labels : List LabelValue) (o : Option ℕ)
 place_within name labels None e = tt
 place_within name labels (Some i) e = (position-Some (λ (l : LabelValue). bytes_eq l.name name) labels i nobody (sym e)).0
 
-position-push : {X : Type 0} (p : X → Bool) (xs : List X) (y : X) → position p xs ≡ None → position p (xs ++ y ∷ []) ≡ cond (p y) (Some (length xs)) None
+pub position-push : {X : Type 0} (p : X → Bool) (xs : List X) (y : X) → position p xs ≡ None → position p (xs ++ y ∷ []) ≡ cond (p y) (Some (length xs)) None
 position-push p xs y e =
     let long = length_push xs y in
     let found = position_or_len_push p xs y in
     let small : position_or_len p xs ≤ length xs = prefix_len-le-length (λ x. not (p x)) xs in
     grind (arith, nat_tests)
 
-position-push_other : {X : Type 0} (p : X → Bool) (xs : List X) (y : X) → p y ≡ false → position p (xs ++ y ∷ []) ≡ position p xs
+pub position-push_other : {X : Type 0} (p : X → Bool) (xs : List X) (y : X) → p y ≡ false → position p (xs ++ y ∷ []) ≡ position p xs
 position-push_other p xs y e =
     let long = length_push xs y in
     let found = position_or_len_push p xs y in

@@ -17,7 +17,10 @@ use Rattle.rv_asm.specs.declared.fault.AsmRule.TheVariants as rule
 use Rattle.rv_asm.specs.declared.named.Symbol.{Symbol}
 use Rattle.rv_asm.specs.declared.sizes.SectionSizes.{SectionSizes}
 use Rattle.rv_asm.specs.Answers.{Becomes, IsFaultOf, or_at}
+use Rattle.elf_write.specs.declared.module.Form.{Form}
 use Rattle.rv_asm.specs.Drafts.{symbol_values}
+use Rattle.rv_asm.specs.Labels.{LabelValue}
+use Rattle.rv_asm.specs.Uses.{UseValue}
 use Rattle.rv_asm.specs.SecondPass.{DraftValue, lengthened, here, offset_in, put, with_bytes}
 
 -- the law of sizes, as it is called for
@@ -25,8 +28,9 @@ abbrev pub HasItsSize : Type 0
 HasItsSize = (id : SectionId) (offset address target : ℕ) (statement : Asked) (bytes : List ℕ) → bytes_of id offset address target statement ≡ Some bytes → size_of id offset statement ≡ Some (length bytes)
 
 -- a draft as its fields show it
-abbrev pub shown : SectionSizes → SectionId → List ℕ → List ℕ → List ℕ → ℕ → List Symbol → DraftValue
-shown sizes id text rodata rwdata bss symbols = record { sizes = sizes; section = id; text = text; rodata = rodata; rwdata = rwdata; bss = bss; symbols = symbol_values symbols }
+abbrev pub shown : Form → SectionSizes → SectionId → List ℕ → List ℕ → List ℕ → ℕ → List Symbol → List LabelValue → List UseValue → DraftValue
+shown form sizes id text rodata rwdata bss symbols labels uses =
+    record { form = form; sizes = sizes; section = id; text = text; rodata = rodata; rwdata = rwdata; bss = bss; symbols = symbol_values symbols; labels = labels; uses = uses }
 
 lengthened_none : (number : ℕ) (b : Option (List ℕ)) (d : DraftValue) → b ≡ None → lengthened number b d ≡ Err (fault.At number rule.Range)
 unfolding lengthened

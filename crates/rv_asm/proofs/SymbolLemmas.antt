@@ -15,17 +15,15 @@ use Rattle.std.specs.Result.{IfOk, OnErr}
 use Rattle.rv_asm.specs.declared.fault.AsmFault.{AsmFault}
 use Rattle.rv_asm.specs.Drafts.{label_names, symbol_names}
 use Rattle.rv_asm.specs.Labels.{LabelValue, changed, place_named, symbol_named, symbol_place}
+use Rattle.rv_asm.specs.Names.{name_place}
 
 -- ---- places by names alone
-
-abbrev name_place : List ℕ → List (List ℕ) → Option ℕ
-name_place name names = position (λ n. bytes_eq n name) names
 
 first-map : {X Y : Type 0} (p : Y → Bool) (f : X → Y) (xs : List X) → position_or_len (λ x. p (f x)) xs ≡ position_or_len p (map f xs)
 first-map p f [] = refl
 first-map p f (x ∷ xs) = ap (λ (n : ℕ). cond (not (p (f x))) (1 + n) 0) (first-map p f xs)
 
-position-map : {X Y : Type 0} (p : Y → Bool) (f : X → Y) (xs : List X) → position (λ x. p (f x)) xs ≡ position p (map f xs)
+pub position-map : {X Y : Type 0} (p : Y → Bool) (f : X → Y) (xs : List X) → position (λ x. p (f x)) xs ≡ position p (map f xs)
 position-map p f xs =
     let same = first-map p f xs in
     let long = length-map xs f in
@@ -41,7 +39,7 @@ same_place name labels symbols e =
 
 -- ---- the symbol at a place
 
-is_first : {X : Type 0} (p : X → Bool) (xs : List X) (i : ℕ) → position p xs ≡ Some i → (position_or_len p xs ≡ i) × (i < length xs)
+pub is_first : {X : Type 0} (p : X → Bool) (xs : List X) (i : ℕ) → position p xs ≡ Some i → (position_or_len p xs ≡ i) × (i < length xs)
 is_first p xs i e =
     let small : position_or_len p xs ≤ length xs = prefix_len-le-length (λ x. not (p x)) xs in
     elim (cases_Bool (nat_lt (position_or_len p xs) (length xs))) [
@@ -52,7 +50,7 @@ is_first p xs i e =
       | inr t ↦ absurd cc
     ]
 
-is_past : {X : Type 0} (p : X → Bool) (xs : List X) → position p xs ≡ None → position_or_len p xs ≡ length xs
+pub is_past : {X : Type 0} (p : X → Bool) (xs : List X) → position p xs ≡ None → position_or_len p xs ≡ length xs
 is_past p xs e =
     let small : position_or_len p xs ≤ length xs = prefix_len-le-length (λ x. not (p x)) xs in
     grind (arith, nat_tests)
@@ -60,7 +58,7 @@ is_past p xs e =
 one_more : (n : ℕ) → 1 + n ≡ suc n
 one_more n = omega arith
 
-find_first : {X : Type 0} (p : X → Bool) (xs : List X) (d : X) → position_or_len p xs < length xs → find p xs ≡ Some (get_or xs (position_or_len p xs) d)
+pub find_first : {X : Type 0} (p : X → Bool) (xs : List X) (d : X) → position_or_len p xs < length xs → find p xs ≡ Some (get_or xs (position_or_len p xs) d)
 find_first p [] d h = absurd (omega arith)
 find_first p (x ∷ xs) d h =
     elim (cases_Bool (p x)) [
@@ -72,7 +70,7 @@ find_first p (x ∷ xs) d h =
           rw (t) at
     ]
 
-find_none : {X : Type 0} (p : X → Bool) (xs : List X) → position_or_len p xs ≡ length xs → find p xs ≡ None
+pub find_none : {X : Type 0} (p : X → Bool) (xs : List X) → position_or_len p xs ≡ length xs → find p xs ≡ None
 find_none p [] h = refl
 find_none p (x ∷ xs) h =
     elim (cases_Bool (p x)) [

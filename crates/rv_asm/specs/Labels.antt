@@ -1,6 +1,7 @@
 -- Labels, and the symbols that stand for them.
 use Rattle.std.specs.Prelude.{ℕ, true, List, [], ◌∷◌, Option, if◌then◌else◌}
 use Rattle.std.specs.List.{find, position}
+use Rattle.std.specs.Option.{option_map}
 use Rattle.std.specs.Str.{bytes_eq}
 use Rattle.asm_lines.specs.declared.statement.SectionId.{SectionId}
 use Rattle.asm_lines.specs.declared.statement.SectionId.TheVariants as section
@@ -23,6 +24,11 @@ section_number section.Text = 1
 section_number section.Rodata = 2
 section_number section.Data = 3
 section_number section.Bss = 4
+
+-- the number of the section of the label of a name among labels
+abbrev pub section_named : List ℕ → List LabelValue → Option ℕ
+section_named name labels =
+    option_map (λ l. section_number l.section) (find (λ l. bytes_eq l.name name) labels)
 
 -- the place of the symbol of a name among symbols
 abbrev pub symbol_place : List ℕ → List ModSymbol → Option ℕ

@@ -4,5 +4,8 @@ pub mod Drafts
 pub mod FirstPass
 pub mod Kept
 pub mod Labels
+pub mod Links
+pub mod Names
 pub mod Places
 pub mod SecondPass
+pub mod Uses

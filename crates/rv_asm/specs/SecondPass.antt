@@ -1,7 +1,9 @@
 -- The second pass over a source: what each section has, and what the symbols are. The address of
 -- each label is known by the first.
-use Rattle.std.specs.Prelude.{ℕ, suc, ◌+◌, ◌-◌, ◌^◌, ◌==◌, ◌&&◌, Bool, false, List, [], ◌∷◌, ◌++◌, length, map, nat_le, nat_lt, Option, Some, None, Result, Ok, Err, if◌then◌else◌}
+use Rattle.std.specs.Prelude.{ℕ, pos, suc, ◌+◌, ◌-◌, ◌-ℤ◌, ◌^◌, ◌==◌, ◌&&◌, ◌||◌, Bool, true, false, List, [], ◌∷◌, ◌++◌, int_le, length, map, nat_le, nat_lt, Option, Some, None, Result, Ok, Err, if◌then◌else◌}
+use Rattle.std.specs.Option.{option_map, option_map_or}
 use Rattle.asm_bytes.specs.Bytes.{bytes_of}
+use Rattle.asm_bytes.specs.Sizes.{puts_nothing}
 use Rattle.asm_lines.specs.declared.statement.SectionId.{SectionId}
 use Rattle.asm_lines.specs.declared.statement.SectionId.TheVariants as section
 use Rattle.asm_lines.specs.declared.statement.Use.{Use}
@@ -9,8 +11,10 @@ use Rattle.asm_lines.specs.declared.statement.Use.TheVariants as use_
 use Rattle.asm_lines.specs.Lines.{line_of}
 use Rattle.asm_lines.specs.Statements.{Asked, Empty, Section, Align, Zero, Number, Hex, Ascii, Li, Plain, Named}
 use Rattle.elf_write.specs.declared.layout.Bases.{Bases}
+use Rattle.elf_write.specs.declared.module.Form.{Form}
+use Rattle.elf_write.specs.declared.module.Form.TheVariants.{Exec, Object}
 use Rattle.elf_write.specs.declared.module.ModSymbol.{ModSymbol}
-use Rattle.elf_write.specs.Layout.{bases_of}
+use Rattle.elf_write.specs.Layout.{bases_in}
 use Rattle.rv_asm.specs.declared.fault.AsmFault.{AsmFault}
 use Rattle.rv_asm.specs.declared.fault.AsmFault.TheVariants as fault
 use Rattle.rv_asm.specs.declared.fault.AsmRule.TheVariants as rule
@@ -18,6 +22,7 @@ use Rattle.rv_asm.specs.declared.sizes.SectionSizes.{SectionSizes}
 use Rattle.rv_asm.specs.declared.first_pass.Survey.{Survey}
 use Rattle.rv_asm.specs.Answers.{◌>>=◌, or_at}
 use Rattle.rv_asm.specs.FirstPass.{size_in}
+use Rattle.rv_asm.specs.Uses.{UseValue}
 use Rattle.rv_asm.specs.Labels.{LabelValue, as_global, changed, of_size, section_number, symbol_named}
 
 -- the address of a section
@@ -27,23 +32,25 @@ base_among bases section.Rodata = bases.rodata
 base_among bases section.Data = bases.rwdata
 base_among bases section.Bss = bases.bss
 
--- the address of a section, where the sections have these sizes
-unfoldable pub base_of : SectionSizes → SectionId → ℕ
-base_of sizes id = base_among (bases_of sizes.text sizes.rodata sizes.rwdata) id
+-- the address of a section, where the sections have these sizes; 0 in an object
+unfoldable pub base_of : Form → SectionSizes → SectionId → ℕ
+base_of form sizes id = base_among (bases_in form sizes.text sizes.rodata sizes.rwdata) id
 
 -- the symbol of a label, before .globl and .size
-abbrev pub symbol_of : SectionSizes → LabelValue → ModSymbol
-symbol_of sizes label = record {
+abbrev pub symbol_of : Form → SectionSizes → LabelValue → ModSymbol
+symbol_of form sizes label = record {
   name = label.name;
   section = section_number label.section;
-  value = base_of sizes label.section + label.offset;
+  value = base_of form sizes label.section + label.offset;
   size = 0;
   global = false;
 }
 
--- A draft of a module: how long its sections become, in which section the next statement stands,
--- what each section has so far, and the symbols in the order of their lines.
+-- A draft of a module: its form, how long its sections become, in which section the next statement
+-- stands, what each section has so far, the symbols in the order of their lines, and the labels and
+-- uses of names that the first pass found.
 pub record DraftValue : Type 0 where
+  pub form : Form
   pub sizes : SectionSizes
   pub section : SectionId
   pub text : List ℕ
@@ -51,17 +58,22 @@ pub record DraftValue : Type 0 where
   pub rwdata : List ℕ
   pub bss : ℕ
   pub symbols : List ModSymbol
+  pub labels : List LabelValue
+  pub uses : List UseValue
 
 -- the draft in which nothing stands yet
-abbrev pub blank : Survey → DraftValue
-blank survey = record {
+abbrev pub blank : Form → Survey → DraftValue
+blank form survey = record {
+  form = form;
   sizes = survey.sizes;
   section = section.Text;
   text = [];
   rodata = [];
   rwdata = [];
   bss = 0;
-  symbols = map (symbol_of survey.sizes) survey.labels;
+  symbols = map (symbol_of form survey.sizes) survey.labels;
+  labels = survey.labels;
+  uses = survey.uses;
 }
 
 -- how long the sections are so far
@@ -75,7 +87,7 @@ offset_in d id = size_in (lengths d) id
 
 -- the address of the next statement
 unfoldable pub here : DraftValue → ℕ
-here d = base_of d.sizes d.section + offset_in d d.section
+here d = base_of d.form d.sizes d.section + offset_in d d.section
 
 -- a draft with bytes at the end of a section; of .bss only their number is kept, since they are
 -- zeros
@@ -125,7 +137,56 @@ used number (use_.Jal rd) name s d = put number s.value (Named (use_.Jal rd) nam
 used number use_.Call name s d = put number s.value (Named use_.Call name) d
 used number (use_.La rd) name s d = put number s.value (Named (use_.La rd) name) d
 
--- behind a statement: Unknown if no line defines the name in it
+-- whether a name is that of a branch or a jump
+abbrev pub is_jump : Use → Bool
+is_jump use_.Globl = false
+is_jump use_.Size = false
+is_jump (use_.Address width addend) = false
+is_jump (use_.Branch cond rs1 rs2) = true
+is_jump (use_.Jal rd) = true
+is_jump use_.Call = false
+is_jump (use_.La rd) = false
+
+-- Whether a use of a name in a section is done with here, where its label, if there is one, stands
+-- in the section of this number: all are in an executable file; in an object those that put
+-- nothing, and branches and jumps within their section. The others are left to a linker.
+abbrev pub is_settled : Form → SectionId → Use → Option ℕ → Bool
+is_settled Exec id what home = true
+is_settled Object id what home =
+    puts_nothing what || (is_jump what && option_map_or (λ h. h == section_number id) home false)
+
+-- whether an addend has room in a relocation
+abbrev pub has_addend : Use → Bool
+has_addend use_.Globl = true
+has_addend use_.Size = true
+has_addend (use_.Address width addend) =
+    int_le (pos 0 -ℤ pos (2 ^ 63)) addend && int_le addend (pos (2 ^ 63 - 1))
+has_addend (use_.Branch cond rs1 rs2) = true
+has_addend (use_.Jal rd) = true
+has_addend use_.Call = true
+has_addend (use_.La rd) = true
+
+-- what is put for a use that is left to a linker: an address has zeros, and a distance is 0
+abbrev pub unlinked : Use → List ℕ → Asked
+unlinked use_.Globl name = Named use_.Globl name
+unlinked use_.Size name = Named use_.Size name
+unlinked (use_.Address width addend) name = Number width (pos 0)
+unlinked (use_.Branch cond rs1 rs2) name = Named (use_.Branch cond rs1 rs2) name
+unlinked (use_.Jal rd) name = Named (use_.Jal rd) name
+unlinked use_.Call name = Named use_.Call name
+unlinked (use_.La rd) name = Named (use_.La rd) name
+
+-- behind a use that is left to a linker: Range if its addend has no room in a relocation
+unfoldable pub left : ℕ → Use → List ℕ → DraftValue → Result DraftValue AsmFault
+left number what name d =
+    if has_addend what then put number (here d) (unlinked what name) d
+    else Err (fault.At number rule.Range)
+
+-- the number of the section of a symbol among symbols
+abbrev pub home_of : List ℕ → List ModSymbol → Option ℕ
+home_of name symbols = option_map (λ s. s.section) (symbol_named name symbols)
+
+-- behind a statement: Unknown if no line defines the name in it, unless it is left to a linker
 unfoldable pub done : ℕ → Asked → DraftValue → Result DraftValue AsmFault
 done number Empty d = Ok d
 done number (Section next) d = Ok (record d { section = next })
@@ -136,9 +197,11 @@ done number (Hex digits) d = put number 0 (Hex digits) d
 done number (Ascii text) d = put number 0 (Ascii text) d
 done number (Li rd value) d = put number 0 (Li rd value) d
 done number (Plain inst) d = put number 0 (Plain inst) d
-done number (Named what name) d = do
-  s ← or_at number rule.Unknown (symbol_named name d.symbols)
-  used number what name s d
+done number (Named what name) d =
+    if is_settled d.form d.section what (home_of name d.symbols) then (do
+      s ← or_at number rule.Unknown (symbol_named name d.symbols)
+      used number what name s d)
+    else left number what name d
 
 -- behind a line
 unfoldable pub drafted_line : ℕ → List ℕ → DraftValue → Result DraftValue AsmFault

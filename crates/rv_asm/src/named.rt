@@ -1,7 +1,7 @@
 //! What names stand for.
 ghost use Rattle.std.specs.Prelude.{◌≤◌, ◌<◌, ◌^◌};
 
-use asm_lines::SectionId;
+use asm_lines::{SectionId, Use};
 
 /// A label: its name, the section in which it stands, and how many bytes of that section stand
 /// before it.
@@ -22,4 +22,15 @@ pub struct Symbol<'a> {
     pub size: u128,
     pub global: bool,
     ghost low: { address < 2 ^ 104 },
+}
+
+/// A use of a name: the section and the place in it at which it puts bytes, what it is for, the
+/// name, and the name of the local label there, which `la` alone has.
+#[derive(Clone, Copy)]
+pub struct PlacedUse<'a> {
+    pub section: SectionId,
+    pub offset: u128,
+    pub what: Use,
+    pub name: &'a [u8],
+    pub label: &'a [u8],
 }

@@ -10,35 +10,26 @@ ghost use Rattle.rv_asm.specs.declared.fault.AsmRule.TheVariants.{Range, Unknown
 ghost use Rattle.rv_asm.specs.Answers.{Answers, Becomes, or_at};
 ghost use Rattle.rv_asm.specs.Drafts.{symbol_value, symbol_values};
 ghost use Rattle.rv_asm.specs.Kept.{AreCounted};
-ghost use Rattle.rv_asm.specs.Labels.{section_number, symbol_place};
+ghost use Rattle.rv_asm.specs.Labels.{symbol_place};
 ghost use Rattle.rv_asm.specs.Places.{label_value, label_values};
-ghost use Rattle.rv_asm.specs.SecondPass.{blank, done, drafted, drafted_line, here, offset_in, put, stands_before, symbol_of};
+ghost use Rattle.rv_asm.specs.SecondPass.{blank, done, drafted, drafted_line, here, home_of, left, offset_in, put, stands_before, symbol_of};
 
 use crate::first_pass::Survey;
 use crate::labels::Labels;
 use crate::named::{Label, Symbol};
+use crate::settling::{has_addend, is_settled, section_number, unlinked};
 use crate::sizes::SectionSizes;
+use crate::uses::Uses;
 use crate::{AsmFault, AsmRule};
 use asm_bytes::{PutFault, put, size_of};
 use asm_lines::{SectionId, Statement, Use, read_line};
+use elf_write::Form;
 use std::alloc::Global;
 use std::marker::Model;
 use wf_text::split_line;
 
 // The most bytes of a section.
 const MAX_SIZE: u128 = 1 << 32;
-
-/// The number of a section in the file.
-pub fn section_number(section: SectionId) -> u8
-    ensures { result ≡ section_number section }
-{
-    match section {
-        SectionId::Text => 1,
-        SectionId::Rodata => 2,
-        SectionId::Data => 3,
-        SectionId::Bss => 4,
-    }
-}
 
 // Whether a symbol stands in a section, at or before a place.
 fn stands_before(symbol: &Symbol<'_>, section: SectionId, here: u128) -> bool
@@ -47,17 +38,19 @@ fn stands_before(symbol: &Symbol<'_>, section: SectionId, here: u128) -> bool
     section_number(symbol.section) == section_number(section) && symbol.address <= here
 }
 
-/// A module that is being made: its labels; how long its sections become; the section of the next
-/// statement; what each section has so far, of `.bss` the number of bytes; and its symbols, in the
-/// order of the labels.
+/// A module that is being made: its form; its labels and uses of names; how long its sections
+/// become; the section of the next statement; what each section has so far, of `.bss` the number of
+/// bytes; and its symbols, in the order of the labels.
 #[derive(Drop)]
 pub struct Draft<'a> {
+    pub form: Form,
     pub text: Vec<u8>,
     pub rodata: Vec<u8>,
     pub rwdata: Vec<u8>,
     pub bss: u64,
     pub symbols: Vec<Symbol<'a>>,
-    labels: Labels<'a>,
+    pub labels: Labels<'a>,
+    pub uses: Uses<'a>,
     sizes: SectionSizes,
     section: SectionId,
 }
@@ -70,6 +63,7 @@ impl<'a> Model for Draft<'a> {
     ghost use Rattle.rv_asm.specs.Drafts.{IsDraft, symbol_values};
 
     ghost view = { λ d. record {
+      form = d.form;
       sizes = d.sizes;
       section = d.section;
       text = d.text.items;
@@ -77,6 +71,8 @@ impl<'a> Model for Draft<'a> {
       rwdata = d.rwdata.items;
       bss = d.bss;
       symbols = symbol_values d.symbols.items;
+      labels = d.labels;
+      uses = d.uses;
     } };
 
     ghost invariant = { λ d. IsDraft d.sizes d.labels (symbol_values d.symbols.items) };
@@ -101,7 +97,7 @@ impl<'a> Draft<'a> {
         ensures value { result ≡ here self.now }
         ensures low { result < 2 ^ 104 }
     {
-        self.sizes.base_of(self.section) + u128::from(self.offset())
+        self.sizes.base_of(self.form, self.section) + u128::from(self.offset())
     }
 
     // The place of the symbol of a name.
@@ -189,11 +185,37 @@ impl<'a> Draft<'a> {
         Ok(())
     }
 
-    // Puts what the use of a label asks for.
+    // The number of the section of a name's label, if there is one.
+    fn home_of(&self, name: &[u8]) -> Option<u8>
+        ensures { result ≡ home_of name.now self.now.symbols }
+    {
+        let place = self.labels.place(name)?;
+        Some(section_number(self.symbols[place].section))
+    }
+
+    // Puts what the use of a name asks for that is left to a linker.
+    #[tactic(auto, unfolding(crate::specs::SecondPass::left))]
+    fn put_left(&mut self, number: u64, what: Use, name: &[u8]) -> Result<(), AsmFault>
+        ensures { Becomes result self.new (left number what name.now self.old) }
+    {
+        if !has_addend(what) {
+            return Err(AsmFault::At {
+                line: number,
+                rule: AsmRule::Range,
+            });
+        }
+        let here = self.here();
+        self.put(number, here, &unlinked(what, name))
+    }
+
+    // Puts what the use of a name asks for.
     fn put_use(&mut self, number: u64, what: Use, name: &[u8]) -> Result<(), AsmFault>
         requires { puts_nothing what ≡ false }
         ensures { Becomes result self.new (done number (Named what name.now) self.old) }
     {
+        if !is_settled(self.form, self.section, what, self.home_of(name)) {
+            return self.put_left(number, what, name);
+        }
         let place = self.place(number, name)?;
         let target = self.symbols[place].address;
         self.put(number, target, &Statement::Named(what, name))
@@ -276,14 +298,14 @@ fn put_in(
 }
 
 // The symbol of a label.
-fn symbol_of<'a>(sizes: &SectionSizes, label: &Label<'a>) -> Symbol<'a>
+fn symbol_of<'a>(form: Form, sizes: &SectionSizes, label: &Label<'a>) -> Symbol<'a>
     requires { AreCounted sizes.now }
-    ensures { symbol_value result ≡ symbol_of sizes.now (label_value label.now) }
+    ensures { symbol_value result ≡ symbol_of form sizes.now (label_value label.now) }
 {
     Symbol {
         name: label.name,
         section: label.section,
-        address: sizes.base_of(label.section) + label.offset,
+        address: sizes.base_of(form, label.section) + label.offset,
         size: 0,
         global: false,
     }
@@ -292,36 +314,39 @@ fn symbol_of<'a>(sizes: &SectionSizes, label: &Label<'a>) -> Symbol<'a>
 // The symbols of labels.
 fn symbols_of<'a>(
     alloc: Global,
+    form: Form,
     sizes: &SectionSizes,
     labels: &[Label<'a>],
 ) -> Result<Vec<Symbol<'a>>, AsmFault>
     requires { AreCounted sizes.now }
     ensures ok { IfOk result
         (λ symbols. symbol_values symbols.items
-        ≡ map (symbol_of sizes.now) (label_values labels.now)) }
+        ≡ map (symbol_of form sizes.now) (label_values labels.now)) }
     ensures err { IfErr result (λ fault. fault ≡ Memory) }
 {
     let mut symbols = Vec::new(alloc);
     for label in labels {
-        symbols.push(symbol_of(sizes, label))?;
+        symbols.push(symbol_of(form, sizes, label))?;
     }
     Ok(symbols)
 }
 
 // The draft in which nothing stands yet.
-fn blank<'a>(alloc: Global, survey: Survey<'a>) -> Result<Draft<'a>, AsmFault>
+fn blank<'a>(alloc: Global, form: Form, survey: Survey<'a>) -> Result<Draft<'a>, AsmFault>
     requires { AreCounted survey.sizes }
-    ensures ok { IfOk result (λ draft. draft ≡ blank survey.entry) }
+    ensures ok { IfOk result (λ draft. draft ≡ blank form survey.entry) }
     ensures err { IfErr result (λ fault. fault ≡ Memory) }
 {
-    let symbols = symbols_of(alloc, &survey.sizes, survey.labels.entries())?;
+    let symbols = symbols_of(alloc, form, &survey.sizes, survey.labels.entries())?;
     Ok(Draft {
+        form,
         text: Vec::new(alloc),
         rodata: Vec::new(alloc),
         rwdata: Vec::new(alloc),
         bss: 0,
         symbols,
         labels: survey.labels,
+        uses: survey.uses,
         sizes: survey.sizes,
         section: SectionId::Text,
     })
@@ -332,13 +357,14 @@ fn blank<'a>(alloc: Global, survey: Survey<'a>) -> Result<Draft<'a>, AsmFault>
 #[tactic(auto, using(crate::proofs::SecondLemmas::drafted_steps))]
 pub fn drafted<'a>(
     alloc: Global,
+    form: Form,
     source: &'a [u8],
     survey: Survey<'a>,
 ) -> Result<Draft<'a>, AsmFault>
     requires { AreCounted survey.sizes }
-    ensures { Answers (λ d. d) result (drafted 1 (lines_of source.now) (blank survey.entry)) }
+    ensures { Answers (λ d. d) result (drafted 1 (lines_of source.now) (blank form survey.entry)) }
 {
-    let mut draft = blank(alloc, survey)?;
+    let mut draft = blank(alloc, form, survey)?;
     let mut rest = source;
     let mut number = 1;
     while !rest.is_empty() {

@@ -6,6 +6,7 @@ ghost use Rattle.rv_asm.specs.SecondPass.{base_of};
 ghost use Rattle.rv_asm.specs.Kept.{AreCounted};
 
 use asm_lines::SectionId;
+use elf_write::Form;
 
 // A size above this one counts as this one.
 const MOST: u128 = 1 << 100;
@@ -73,13 +74,16 @@ impl SectionSizes {
         }
     }
 
-    /// The address of a section.
+    /// The address of a section: 0 in an object.
     #[tactic(auto, unfolding(crate::specs::SecondPass::base_of, elf_write::specs::Layout::bases_of))]
-    pub fn base_of(&self, section: SectionId) -> u128
+    pub fn base_of(&self, form: Form, section: SectionId) -> u128
         requires { AreCounted self.now }
-        ensures value { result ≡ base_of self.now section }
+        ensures value { result ≡ base_of form self.now section }
         ensures small { result < 2 ^ 103 }
     {
+        if form == Form::Object {
+            return 0;
+        }
         let rodata = rounded_up(4096, 0x10000 + self.text);
         let rwdata = rounded_up(4096, rodata + self.rodata);
         match section {

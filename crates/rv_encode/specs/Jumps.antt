@@ -54,7 +54,8 @@ jump_bytes from to =
 
 -- The four bytes are an instruction that wants this of its hart and takes it from one state to
 -- another.
-pub record Runs (bytes : List ℕ) (before : ArchState) (want : Want) (after : ArchState) : Type 0 where
+pub record Runs (bytes : List ℕ) (before : ArchState) (want : Want) (after : ArchState)
+    : Type 0 where
   pub inst : Inst
   pub decodes : inst_of (from_le_bytes w32 bytes) ≡ Some inst
   pub wants : want_of inst before ≡ want
@@ -68,5 +69,7 @@ state_at pc x = record { pc = pc; x = x }
 -- alone. The first instruction wants nothing, the second what a jump to that address wants.
 pub record LeadsTo (bytes : List ℕ) (from to : ℕ) (x : List ℕ) : Type 0 where
   pub between : ℕ
-  pub first : Runs (take 4 bytes) (state_at from x) Nothing (state_at (next_pc from) (slice_set x 6 between))
-  pub second : Runs (drop 4 bytes) (state_at (next_pc from) (slice_set x 6 between)) (to_jump to) (state_at to (slice_set x 6 between))
+  pub first : Runs (take 4 bytes) (state_at from x) Nothing
+      (state_at (next_pc from) (slice_set x 6 between))
+  pub second : Runs (drop 4 bytes) (state_at (next_pc from) (slice_set x 6 between)) (to_jump to)
+      (state_at to (slice_set x 6 between))

@@ -13,7 +13,7 @@ use Rattle.wf_flat.specs.Accesses.{generation_text, is_here}
 use Rattle.wf_flat.specs.Boot.{places_with}
 use Rattle.wf_flat.specs.Lists.{changed_at, changed_by, found_by, others_changed, sorted_by, with_number}
 use Rattle.wf_flat.specs.State.{FlatState, GenState, HartState, PageState}
-use Rattle.wf_flat.specs.Steps.{answered, change_hart}
+use Rattle.wf_flat.specs.Changes.{answered, change_hart}
 use Rattle.wf_effects.specs.Generations.{jumps_in, patches_in}
 use Rattle.wf_effects.specs.Texts.{spliced, spliced_jumps}
 
@@ -59,8 +59,8 @@ new_reach pages gen = if gen.live then places_with gen.reach pages else gen.reac
 abbrev pub reaching : List ℕ → GenState → GenState
 reaching pages gen = record gen { reach = new_reach pages gen }
 
--- So many pages are mapped from one on, of zeros or of a patch: they have the next births, by rising number, and each
--- generation that lives reaches them.
+-- So many pages are mapped from one on, of zeros or of a patch: they have the next births, by
+-- rising number, and each generation that lives reaches them.
 abbrev pub mapped : FlatState → ℕ → ℕ → Bool → Option DeltaValue → FlatState
 mapped s first n write delta =
     record s {
@@ -109,7 +109,8 @@ page_gone s page worn =
       worn = if worn then s.worn + 1 else s.worn;
     }
 
--- the text of a generation that is born: that of its parent, spliced with the patch where there is one
+-- the text of a generation that is born: that of its parent, spliced with the patch where there is
+-- one
 abbrev pub born_text : FlatState → ℕ → Option DeltaValue → List PageValue
 born_text s parent None = generation_text s parent
 born_text s parent (Some delta) = spliced (generation_text s parent) delta
@@ -119,7 +120,8 @@ abbrev pub born_jumps : FlatState → ℕ → Option DeltaValue → List Jump
 born_jumps s parent None = jumps_in s parent
 born_jumps s parent (Some delta) = spliced_jumps (jumps_in s parent) delta.jumps
 
--- how many of the run's patches a generation has that is born: behind patch K it has K + 1, else those of its parent
+-- how many of the run's patches a generation has that is born: behind patch K it has K + 1, else
+-- those of its parent
 abbrev pub born_patches : FlatState → ℕ → Option ℕ → ℕ
 born_patches s parent None = patches_in s parent
 born_patches s parent (Some patch) = patch + 1
@@ -128,7 +130,8 @@ born_patches s parent (Some patch) = patch + 1
 abbrev pub here_numbers : FlatState → List ℕ
 here_numbers s = map (λ page. page.number) (filter (λ page. is_here page.stage) s.pages)
 
--- a generation that is born: it reaches the places of its text and of the pages of data that are Here
+-- a generation that is born: it reaches the places of its text and of the pages of data that are
+-- Here
 abbrev pub newborn : List DeltaValue → FlatState → ℕ → Option ℕ → GenState
 newborn deltas s parent patch =
     let text : List PageValue = born_text s parent (delta_of deltas patch) in

@@ -15,7 +15,8 @@ abbrev pub newest_live : List GenState → Option ℕ → Option ℕ
 newest_live [] so_far = so_far
 newest_live (gen ∷ gens) so_far = newest_live gens (if gen.live then Some gen.number else so_far)
 
--- the newest generation: of those that live the one with the greatest number; where none lives, the last one born
+-- the newest generation: of those that live the one with the greatest number; where none lives, the
+-- last one born
 abbrev pub newest : FlatState → ℕ
 newest s = unwrap_or (newest_live s.gens None) (length s.gens - 1)
 

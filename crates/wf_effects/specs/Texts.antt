@@ -28,7 +28,8 @@ with_jump text jump =
     text_with (text_with text jump.at (from_le_bytes w32 (take 4 jump.bytes))) (jump.at + 4)
     (from_le_bytes w32 (drop 4 jump.bytes))
 
--- A text spliced with a patch: with its private pages, and with its jumps over what stood there; nothing else.
+-- A text spliced with a patch: with its private pages, and with its jumps over what stood there;
+-- nothing else.
 abbrev pub spliced : List PageValue → DeltaValue → List PageValue
 spliced text delta = fold with_jump (with_pages text delta.private) delta.jumps
 
@@ -37,7 +38,8 @@ pub record IsPlaced (jump : Jump) : Type 0 where
   pub even : jump.at % 4 ≡ 0
   pub low : jump.at < 2 ^ 38
 
--- A patch fits a text: no page of the text and of its private pages is there twice, and its jumps are placed.
+-- A patch fits a text: no page of the text and of its private pages is there twice, and its jumps
+-- are placed.
 pub record IsSpliceable (text : List PageValue) (delta : DeltaValue) : Type 0 where
   pub distinct : IsDistinct nat_eq (text_numbers (text ++ delta.private))
   pub placed : AllByRecursion IsPlaced delta.jumps

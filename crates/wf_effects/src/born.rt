@@ -10,10 +10,9 @@ ghost use Rattle.wf_effects.specs.Generations.{patches_in, jumps_in};
 ghost use Rattle.wf_effects.specs.Texts.{IsSpliceable};
 
 use crate::deltas::delta_of;
-use crate::places::add_places;
 use crate::texts::{copied, spliced, spliced_jumps};
 use std::alloc::Global;
-use wf_flat::{Flat, FlatPage, Gen, Stage};
+use wf_flat::{Flat, FlatPage, Gen, Stage, add_places, numbers_of_text};
 use wf_outside::{Delta, Jump, Memory, Page};
 
 // The text of a generation that is there.
@@ -88,13 +87,6 @@ fn born_patches(flat: &Flat, parent: u32, patch: Option<u32>) -> u32
     }
 }
 
-// The numbers of pages of text.
-fn numbers_of_text(alloc: Global, pages: &[Page]) -> Result<Vec<u32>, Memory>
-    ensures { IfOk result (λ numbers. numbers.items ≡ text_numbers pages.now) }
-{
-    Ok(pages.iter().map(|page| page.number).collect(alloc)?)
-}
-
 // Whether a page is Here.
 fn is_here(page: &FlatPage) -> bool
     ensures { result ≡ is_here page.now.stage }
@@ -106,8 +98,8 @@ fn is_here(page: &FlatPage) -> bool
     }
 }
 
-// The numbers of the pages of data that are Here.
-fn here_numbers(alloc: Global, flat: &Flat) -> Result<Vec<u32>, Memory>
+/// The numbers of the pages of data that are Here.
+pub fn here_numbers(alloc: Global, flat: &Flat) -> Result<Vec<u32>, Memory>
     ensures { IfOk result (λ numbers. numbers.items ≡ effects.here_numbers flat.now) }
 {
     let mut numbers = Vec::new(alloc);
@@ -119,8 +111,8 @@ fn here_numbers(alloc: Global, flat: &Flat) -> Result<Vec<u32>, Memory>
     Ok(numbers)
 }
 
-// The places of a text and of the pages of data that are Here.
-fn born_reach(alloc: Global, flat: &Flat, text: &[Page]) -> Result<Vec<u32>, Memory>
+/// The places of a text and of the pages of data that are Here, rising.
+pub fn born_places(alloc: Global, flat: &Flat, text: &[Page]) -> Result<Vec<u32>, Memory>
     ensures places { IfOk result
         (λ places. places.items
         ≡ places_with (places_with [] (text_numbers text.now)) (effects.here_numbers flat.now)) }
@@ -149,7 +141,7 @@ fn newborn(
 {
     let delta = delta_of(deltas, patch);
     let text = born_text(alloc, flat, parent, delta)?;
-    let reach = born_reach(alloc, flat, &text)?;
+    let reach = born_places(alloc, flat, &text)?;
     Ok(Gen {
         number: flat.gens.len() as u32,
         parent: Some(parent),
@@ -161,8 +153,8 @@ fn newborn(
     })
 }
 
-/// The change of a Born: a generation is born, of this parent, and with this patch of the run where there is
-/// one. It copies the parent's text, and takes one pass over the pages of data.
+/// The change of a Born: a generation is born, of this parent, and with this patch of the run where
+/// there is one. It copies the parent's text, and takes one pass over the pages of data.
 ///
 /// # Errors
 ///

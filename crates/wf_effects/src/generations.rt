@@ -27,8 +27,8 @@ fn newest_live(gens: &[Gen]) -> Option<u32>
     newest
 }
 
-/// The newest generation: of those that live the one with the greatest number, and where none lives the
-/// last one born. It takes one pass over the generations.
+/// The newest generation: of those that live the one with the greatest number, and where none lives
+/// the last one born. It takes one pass over the generations.
 pub fn newest(flat: &Flat) -> u32
     requires few { length flat.now.gens ≤ 2 ^ 32 }
     ensures { result ≡ generations.newest flat.now }

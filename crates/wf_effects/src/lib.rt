@@ -8,12 +8,11 @@ mod living;
 mod mapping;
 mod noting;
 mod pages;
-mod places;
 mod ranges;
 mod reaches;
 mod texts;
 
-pub use born::generation_born;
+pub use born::{born_places, generation_born, here_numbers};
 pub use deltas::{delta_of, pages_of};
 pub use generations::{is_live, lowest_in, newest};
 pub use living::{generation_dead, hart_moved};

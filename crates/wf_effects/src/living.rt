@@ -32,8 +32,8 @@ fn drop_generation(flat: &mut Flat, generation: u32)
     forget_generation(&mut flat.met, generation);
 }
 
-/// The change of a Dead: the generation, where it is there, lives no more, and has met nothing any more. It
-/// takes one pass over what was met.
+/// The change of a Dead: the generation, where it is there, lives no more, and has met nothing any
+/// more. It takes one pass over what was met.
 pub fn generation_dead(flat: &mut Flat, generation: u32)
     requires { IsOrdered flat.old }
     ensures state { flat.new ≡ effects.generation_dead flat.old generation }

@@ -122,7 +122,8 @@ fn add_pages(pages: &mut Vec<FlatPage>, more: Vec<FlatPage>) -> Result<(), Memor
     }
 }
 
-// The pages come to those of data, the generations reach these places, and so many births are numbered.
+// The pages come to those of data, the generations reach these places, and so many births are
+// numbered.
 fn add_mapped(
     flat: &mut Flat,
     more: Vec<FlatPage>,
@@ -147,9 +148,9 @@ fn add_mapped(
     Ok(())
 }
 
-/// The change of a Map: a run of pages is mapped, of zeros or of a patch of the run. They have the next births,
-/// by rising number, and each generation that lives reaches them. It sorts the pages of data, and copies the
-/// places that the generations reach.
+/// The change of a Map: a run of pages is mapped, of zeros or of a patch of the run. They have the
+/// next births, by rising number, and each generation that lives reaches them. It sorts the pages
+/// of data, and copies the places that the generations reach.
 ///
 /// # Errors
 ///

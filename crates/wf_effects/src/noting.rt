@@ -114,8 +114,8 @@ fn place_among(harts: usize, actor: Actor) -> usize
     }
 }
 
-/// Pages that an actor moved are noted by every hart that is in a try, but for the actor. For each hart it
-/// takes time in what has moved for it, times these pages.
+/// Pages that an actor moved are noted by every hart that is in a try, but for the actor. For each
+/// hart it takes time in what has moved for it, times these pages.
 ///
 /// # Errors
 ///

@@ -40,8 +40,8 @@ fn go_in(flat: &mut Flat, first: u32, n: u64)
     go_all(&mut flat.pages, first, n);
 }
 
-/// The change of a Going: an unmap of so many pages from one on has begun. It takes one pass over the pages
-/// of data.
+/// The change of a Going: an unmap of so many pages from one on has begun. It takes one pass over
+/// the pages of data.
 pub fn pages_going(flat: &mut Flat, first: u32, n: u64)
     requires fits { first + n < 2 ^ 64 }
     requires ordered { IsOrdered flat.old }
@@ -78,8 +78,8 @@ fn end_page(flat: &mut Flat, page: u32)
     forget_page(&mut flat.met, page);
 }
 
-/// The change of an Ending: the page of a number, where it is there, is Ending, and no generation has met it
-/// any more. It takes one pass over what was met.
+/// The change of an Ending: the page of a number, where it is there, is Ending, and no generation
+/// has met it any more. It takes one pass over what was met.
 pub fn page_ending(flat: &mut Flat, page: u32)
     requires { IsOrdered flat.old }
     ensures state { flat.new ≡ effects.page_ending flat.old page }
@@ -107,8 +107,8 @@ fn drop_page(flat: &mut Flat, page: u32, worn: bool)
     }
 }
 
-/// The change of a Gone: the page of a number is there no more, no generation has met it, and where its
-/// frame is worn, one more is. It takes one pass over the pages of data and over what was met.
+/// The change of a Gone: the page of a number is there no more, no generation has met it, and where
+/// its frame is worn, one more is. It takes one pass over the pages of data and over what was met.
 pub fn page_gone(flat: &mut Flat, page: u32, worn: bool)
     requires ordered { IsOrdered flat.old }
     requires room { flat.old.worn < MOST_FRAMES }

@@ -93,8 +93,8 @@ fn is_live_text(flat: &Flat, page: u32) -> bool
     flat.gens.iter().any(|version| is_text_of(version, page))
 }
 
-/// The first of these pages that is Here, or text of a generation that lives. For each page it takes time in
-/// the logarithm of the pages of data and of each text.
+/// The first of these pages that is Here, or text of a generation that lives. For each page it
+/// takes time in the logarithm of the pages of data and of each text.
 pub fn first_overlap(flat: &Flat, pages: &[u32]) -> Option<u32>
     requires { IsOrdered flat.now }
     ensures { result ≡ ranges.first_overlap flat.now pages.now }
@@ -107,8 +107,8 @@ pub fn first_overlap(flat: &Flat, pages: &[u32]) -> Option<u32>
     None
 }
 
-/// The first of these pages that is no page of data. For each page it takes time in the logarithm of the
-/// pages of data.
+/// The first of these pages that is no page of data. For each page it takes time in the logarithm
+/// of the pages of data.
 pub fn first_absent(flat: &Flat, pages: &[u32]) -> Option<u32>
     requires { IsOrdered flat.now }
     ensures { result ≡ ranges.first_absent flat.now pages.now }
@@ -121,8 +121,8 @@ pub fn first_absent(flat: &Flat, pages: &[u32]) -> Option<u32>
     None
 }
 
-/// The first of these pages that is Ending. For each page it takes time in the logarithm of the pages of
-/// data.
+/// The first of these pages that is Ending. For each page it takes time in the logarithm of the
+/// pages of data.
 pub fn first_leaving(flat: &Flat, pages: &[u32]) -> Option<u32>
     requires { IsOrdered flat.now }
     ensures { result ≡ ranges.first_leaving flat.now pages.now }

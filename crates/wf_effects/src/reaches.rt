@@ -4,11 +4,10 @@ ghost use Rattle.wf_outside.specs.Lists.{IsRising};
 ghost use Rattle.wf_flat.specs.State.{GenState};
 ghost use Rattle.wf_effects.specs.Effects.{reaching, new_reach};
 
-use crate::places::add_places;
 use std::alloc::Global;
 use std::marker::Model;
 use std::mem;
-use wf_flat::Gen;
+use wf_flat::{Gen, add_places};
 use wf_outside::Memory;
 
 // The places that a generation reaches, rising.

@@ -1,8 +1,8 @@
 //! Files and images of a shelf.
-ghost use Rattle.std.specs.Prelude.{◌≡◌, ◌≤◌, ℕ, List, IfOk, IfErr, IfSome, Some, Err, vec_len};
+ghost use Rattle.std.specs.Prelude.{◌≡◌, ◌<◌, ◌≤◌, ◌^◌, ℕ, List, IfOk, IfErr, IfSome, Some, Err, vec_len};
 ghost use Rattle.wf_outside.specs.Files.{first_bytes, HasRisen};
 ghost use Rattle.wf_status.specs.declared.status.Status.{Status};
-ghost use Rattle.wf_fetch.specs.Held.{HoldsBytes, max_file};
+ghost use Rattle.wf_fetch.specs.Held.{HoldsBytes, HoldsWithin, max_file};
 ghost use Rattle.wf_fetch.specs.Loaded.{loaded};
 ghost use Rattle.wf_fetch.specs.Fetching.{IsReadStatus, IsImageStatus, MayRead, MayFetchImage};
 
@@ -14,6 +14,38 @@ use wf_status::{LimitKind, Status};
 /// The most bytes of a file.
 pub const MAX_FILE: u64 = 67_108_864;
 
+/// The most bytes of a journal.
+pub const MAX_JOURNAL: u64 = 268_435_456;
+
+/// The bytes of a file, of which there are at most so many; or Shelf where the read failed, the
+/// limit where the file is longer, and Memory.
+pub fn fetch_within<S: Shelf>(shelf: &mut S, name: &[u8], most: u64) -> Result<Vec<u8>, Status>
+    requires { most < 2 ^ 32 }
+    ensures found { IfOk result
+        (λ bytes. IfSome (S.holds shelf.old)
+        (λ files. HoldsWithin most (first_bytes name.now files) (λ held. held ≡ bytes.items))) }
+    ensures few { IfOk result (λ bytes. vec_len bytes ≤ most) }
+    ensures cause { IfErr result
+        (λ status. IfSome (S.holds shelf.old)
+        (λ files. IsReadStatus most (first_bytes name.now files) status)) }
+    ensures kind { IfErr result MayRead }
+    ensures shelf { result ≡ Err Status.Shelf
+        → HasRisen (S.faults shelf.old name.now) (S.faults shelf.new name.now) }
+    ensures holds { S.holds shelf.new ≡ S.holds shelf.old }
+    ensures counts { (other : List ℕ) → S.faults shelf.old other ≤ S.faults shelf.new other }
+{
+    match shelf.read(name, most) {
+        Ok(bytes) => Ok(bytes),
+        Err(ShelfFault::Failed) => Err(Status::Shelf),
+        Err(ShelfFault::TooLong { .. }) => Err(Status::Limit {
+            what: LimitKind::File,
+            number: most + 1,
+            most,
+        }),
+        Err(ShelfFault::Memory) => Err(Status::Memory),
+    }
+}
+
 /// The bytes of a file, of which there are at most `MAX_FILE`; or Shelf where the read failed, the
 /// limit where the file is longer, and Memory.
 pub fn fetch<S: Shelf>(shelf: &mut S, name: &[u8]) -> Result<Vec<u8>, Status>
@@ -23,23 +55,14 @@ pub fn fetch<S: Shelf>(shelf: &mut S, name: &[u8]) -> Result<Vec<u8>, Status>
     ensures few { IfOk result (λ bytes. vec_len bytes ≤ max_file) }
     ensures cause { IfErr result
         (λ status. IfSome (S.holds shelf.old)
-        (λ files. IsReadStatus (first_bytes name.now files) status)) }
+        (λ files. IsReadStatus max_file (first_bytes name.now files) status)) }
     ensures kind { IfErr result MayRead }
     ensures shelf { result ≡ Err Status.Shelf
         → HasRisen (S.faults shelf.old name.now) (S.faults shelf.new name.now) }
     ensures holds { S.holds shelf.new ≡ S.holds shelf.old }
     ensures counts { (other : List ℕ) → S.faults shelf.old other ≤ S.faults shelf.new other }
 {
-    match shelf.read(name, MAX_FILE) {
-        Ok(bytes) => Ok(bytes),
-        Err(ShelfFault::Failed) => Err(Status::Shelf),
-        Err(ShelfFault::TooLong { .. }) => Err(Status::Limit {
-            what: LimitKind::File,
-            number: MAX_FILE + 1,
-            most: MAX_FILE,
-        }),
-        Err(ShelfFault::Memory) => Err(Status::Memory),
-    }
+    fetch_within(shelf, name, MAX_FILE)
 }
 
 /// The image of a file; or why there is none: Shelf, the limit of its bytes, the first rule that it

@@ -4,4 +4,4 @@
 mod fetching;
 mod reading;
 
-pub use fetching::{MAX_FILE, fetch, fetch_image};
+pub use fetching::{MAX_FILE, MAX_JOURNAL, fetch, fetch_image, fetch_within};

@@ -1,5 +1,4 @@
 pub mod ListLemmas
-pub mod JournalLemmas
 pub mod RisingLemmas
 pub mod SortLemmas
 pub mod BootLemmas

@@ -1,8 +1,9 @@
 -- Lists whose elements change one by one, what holds of all elements, and what holds of what is there.
 use Rattle.std.proofs.Common.{◌≡◌, ◌<◌, ◌++◌, ℕ, zero, suc, List, [], ◌∷◌, Option, Some, None, length, refl, sym, subst, ap, arith}
-use Rattle.std.specs.Prelude.{IsSomeAnd, IfSome, slice_get}
+use Rattle.std.specs.Prelude.{IsSomeAnd, IfSome, map, slice_get}
 use Rattle.std.specs.List.{AllByRecursion}
 use Rattle.wf_flat.specs.Lists.{changed_at, others_changed}
+use Rattle.wf_flat.specs.Serving.{AllBut}
 
 -- what is there, with what holds of it
 pub some_and : {A : Type 0} (o : Option A) (P : A → Type 0) → IsSomeAnd o P → (x : A) × (o ≡ Some x) × P x
@@ -37,9 +38,13 @@ length_changed f [] i = refl
 length_changed f (x ∷ xs) zero = refl
 length_changed f (x ∷ xs) (suc i) = rw (changed_next x xs i f) (ap suc (length_changed f xs i))
 
--- of one element there are no others
-pub others_alone : {A : Type 0} (xs : List A) (h : ℕ) (f : A → A) → length xs ≡ 1 → h < length xs → others_changed xs h f ≡ xs
-others_alone [] h f one lt = refl
-others_alone (x ∷ []) zero f one lt = refl
-others_alone (x ∷ []) (suc h) f one lt = absurd (omega arith)
-others_alone (x ∷ y ∷ xs) h f one lt = absurd (omega arith)
+-- elements that a change leaves as they are stay
+map_same : {A : Type 0} (P : A → Type 0) (f : A → A) → ((x : A) → P x → f x ≡ x) → (xs : List A) → AllByRecursion P xs → map f xs ≡ xs
+map_same P f keeps [] all = refl
+map_same P f keeps (x ∷ xs) all = rw (keeps x all.0, map_same P f keeps xs all.1) refl
+
+-- so do all but the one at a place
+pub others_same : {A : Type 0} (P : A → Type 0) (f : A → A) → ((x : A) → P x → f x ≡ x) → (xs : List A) (h : ℕ) → AllBut P h xs → others_changed xs h f ≡ xs
+others_same P f keeps [] h all = refl
+others_same P f keeps (x ∷ xs) zero all = ap (λ ys. x ∷ ys) (map_same P f keeps xs all)
+others_same P f keeps (x ∷ xs) (suc h) all = rw (keeps x all.0, others_same P f keeps xs h all.1) refl

@@ -4,7 +4,7 @@ use Rattle.rv_inst.specs.declared.want.Want.{Want}
 use Rattle.rv_inst.specs.declared.want.Want.TheVariants as want
 use Rattle.wf_outside.specs.Pages.{PageValue, page_of}
 use Rattle.wf_flat.specs.declared.state.Stage.{Stage}
-use Rattle.wf_flat.specs.declared.state.Stage.TheVariants.{Here, Ending}
+use Rattle.wf_flat.specs.declared.state.Stage.TheVariants.{Here, Going, Ending}
 use Rattle.wf_flat.specs.declared.state.Reservation.{Reservation}
 use Rattle.wf_flat.specs.State.{FlatState, GenState, HartState, PageState}
 use Rattle.wf_flat.specs.Lists.{found_by}
@@ -49,6 +49,11 @@ abbrev pub is_here : Stage → Bool
 is_here Here = true
 is_here stage = false
 
+-- an unmap of the page is in hand
+abbrev pub is_going : Stage → Bool
+is_going Going = true
+is_going stage = false
+
 -- the page is left to its holder alone
 abbrev pub is_ending : Stage → Bool
 is_ending Ending = true
@@ -58,16 +63,22 @@ is_ending stage = false
 abbrev pub has_right : Access → PageState → Bool
 has_right access page = not access.write || page.write
 
--- a data page is in reach of a hart with the right: it is Here or Going, its generation has met it, and it
--- may be accessed so
+-- a page of data is in reach of a hart: it is Here or Going, and the hart's generation has met it
+abbrev pub in_reach : FlatState → HartState → PageState → Bool
+in_reach s hart page = not (is_ending page.stage) && has_met s.met hart.generation page.number
+
+-- a page of data is in reach of a hart, with the right
 abbrev pub is_reached : FlatState → HartState → Access → PageState → Bool
-is_reached s hart access page =
-    not (is_ending page.stage) && has_met s.met hart.generation page.number && has_right access page
+is_reached s hart access page = in_reach s hart page && has_right access page
 
 -- the holder of a page, if it has one, is this hart
 abbrev pub holder_is : Option ℕ → ℕ → Bool
 holder_is None h = false
 holder_is (Some holder) h = holder == h
+
+-- a hart other than this holds the page
+abbrev pub is_held_by_other : ℕ → PageState → Bool
+is_held_by_other h page = is_some page.holder && not (holder_is page.holder h)
 
 -- nobody holds the page
 abbrev pub is_free : PageState → Bool
@@ -91,8 +102,8 @@ is_open s hart access (Some page) = is_here page.stage && is_reached s hart acce
 abbrev pub has_moved : HartState → ℕ → Bool
 has_moved hart number = is_some (found_by (λ page. page) hart.moved number)
 
--- An access is barred: its page is own text, and it writes; or its page has moved since the hart's fetch, or is
--- not open, as that of an address at or above 2 ^ 38, where no page of data is.
+-- An access is barred: its page is own text, and it writes; or its page has moved since the hart's
+-- fetch, or is not open, as that of an address at or above 2 ^ 38, where no page of data is.
 abbrev pub is_barred : FlatState → HartState → Access → Bool
 is_barred s hart access =
     if is_some (accessed_text s hart access) then access.write
@@ -103,7 +114,8 @@ abbrev pub has_reserved : Option Reservation → ℕ → ℕ → Bool
 has_reserved None va width = false
 has_reserved (Some reservation) va width = (reservation.va == va) && (reservation.width == width)
 
--- a reservation stands for an access: it has its address and width, and the birth and writes of its page
+-- a reservation stands for an access: it has its address and width, and the birth and writes of its
+-- page
 abbrev pub stands : Option Reservation → Access → PageState → Bool
 stands None access page = false
 stands (Some reservation) access page =

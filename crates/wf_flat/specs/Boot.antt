@@ -26,7 +26,8 @@ fresh_page page =
 abbrev pub stack_page : ℕ → DataPageValue
 stack_page number = record { number = number; write = true; words = replicate PAGE_WORDS 0 }
 
--- Hart i has 16 pages, from the first behind data and text on for hart 0. Its stack is the last four of them.
+-- Hart i has 16 pages, from the first behind data and text on for hart 0. Its stack is the last
+-- four of them.
 abbrev pub stack_of : ℕ → List PageState
 stack_of i =
     let first = DATA_END_PAGE + 12 + 16 * i in
@@ -81,8 +82,8 @@ boot_harts entry (suc n) = boot_harts entry n ++ boot_hart entry n ∷ []
 abbrev pub boot_text : ImageValue → List PageValue
 boot_text image = sorted_by (λ page. page.number) image.text
 
--- the places of 512 pages in which the pages of these numbers lie, each once, rising, added to those that are
--- there
+-- the places of 512 pages in which the pages of these numbers lie, each once, rising, added to
+-- those that are there
 unfoldable pub places_with : List ℕ → List ℕ → List ℕ
 places_with places [] = places
 places_with places (n ∷ ns) = places_with (with_number (n / PAGE_WORDS) places) ns

@@ -1,5 +1,6 @@
 -- How many frames a state takes: one for each page, and one for each node of each live view. A view
--- is a tree of three levels (RISC-V privileged ISA, "Sv39"): a node of the lowest level maps 512 pages.
+-- is a tree of three levels (RISC-V privileged ISA, "Sv39"): a node of the lowest level maps 512
+-- pages.
 use Rattle.std.specs.Prelude.{ℕ, ◌+◌, List, [], if◌then◌else◌, length, sum_by}
 use Rattle.wf_flat.specs.State.{FlatState, GenState}
 use Rattle.wf_flat.specs.Boot.{places_with}

@@ -7,8 +7,6 @@ pub mod Accesses
 pub mod Ordered
 pub mod Refusals
 pub mod Steps
-pub mod Calls
-pub mod Legal
+pub mod Changes
 pub mod Follows
-pub mod Unbuilt
 pub mod Serving

@@ -14,8 +14,8 @@ page_in text number = found_by (λ page. page.number) text number
 abbrev pub data_in : List PageState → ℕ → Option PageState
 data_in pages number = found_by (λ page. page.number) pages number
 
--- the number of so many bytes at a place of a page, lowest first; the place is a multiple of their count,
--- which is 1, 2, 4 or 8
+-- the number of so many bytes at a place of a page, lowest first; the place is a multiple of their
+-- count, which is 1, 2, 4 or 8
 abbrev pub number_in : List ℕ → ℕ → ℕ → ℕ
 number_in words at width = slice_index words (at / 8) / 2 ^ (8 * (at % 8)) % 2 ^ (8 * width)
 
@@ -40,7 +40,8 @@ abbrev pub word_at : List PageValue → ℕ → Option ℕ
 word_at text at =
     option_map (λ page. word_in page.words (at % PAGE_SIZE)) (page_in text (page_of at))
 
--- the number by which what generations have met stands in its table: it rises by generation, and then by page
+-- the number by which what generations have met stands in its table: it rises by generation, and
+-- then by page
 abbrev pub met_key : ℕ × ℕ → ℕ
 met_key pair = pair.0 * ADDRESS_PAGES + pair.1
 

@@ -15,7 +15,8 @@ pub record IsOrdered (s : FlatState) : Type 0 where
   pub pages : IsRising (page_numbers s.pages)
   pub met : IsRising (map met_key s.met)
 
--- what a generation keeps: its pages of text stand by rising number, and so do the places of its pages
+-- what a generation keeps: its pages of text stand by rising number, and so do the places of its
+-- pages
 pub record IsGen (text : List PageValue) (reach : List ℕ) : Type 0 where
   pub rising : IsRising (text_numbers text)
   pub reach_rising : IsRising reach

@@ -1,5 +1,6 @@
 -- What contracts of accesses say beside the machine's definitions.
-use Rattle.std.specs.Prelude.{ℕ, Option, Some, None, ◌≡◌, ◌⊎◌, ◌%◌, if◌then◌else◌}
+use Rattle.std.specs.Prelude.{ℕ, zero, suc, List, [], ◌∷◌, Option, Some, None, ◌≡◌, ◌⊎◌, ◌%◌, if◌then◌else◌}
+use Rattle.std.specs.List.{AllByRecursion}
 use Rattle.wf_outside.specs.Pages.{page_of}
 use Rattle.wf_flat.specs.State.{FlatState}
 use Rattle.wf_flat.specs.Accesses.{Access, holds}
@@ -17,3 +18,13 @@ pub record IsPlace (at width : ℕ) : Type 0 where
 abbrev pub held_by : FlatState → ℕ → Option Access → Option ℕ
 held_by s h None = None
 held_by s h (Some access) = if holds s h access then Some (page_of access.va) else None
+
+-- P holds of all but the one at a place
+abbrev pub AllBut : {A : Type 0} → (A → Type 0) → ℕ → List A → Type 0
+AllBut P at [] = Unit {0}
+AllBut P zero (x ∷ xs) = AllByRecursion P xs
+AllBut P (suc at) (x ∷ xs) = P x × AllBut P at xs
+
+-- no hart but this is in a try
+abbrev pub IsAlone : FlatState → ℕ → Type 0
+IsAlone s h = AllBut (λ hart. hart.fetched ≡ None) h s.harts

@@ -9,8 +9,8 @@ use Rattle.wf_flat.specs.declared.state.Stage.{Stage}
 use Rattle.wf_flat.specs.declared.state.Life.{Life}
 use Rattle.wf_flat.specs.declared.state.Reservation.{Reservation}
 
--- a page of data: its number and right, how far an unmap has come, the hart that holds it, its words,
--- how often it was written since it was mapped, and the number of that mapping
+-- a page of data: its number and right, how far an unmap has come, the hart that holds it, its
+-- words, how often it was written since it was mapped, and the number of that mapping
 pub record PageState : Type 0 where
   pub number : ℕ
   pub write : Bool
@@ -20,8 +20,8 @@ pub record PageState : Type 0 where
   pub writes : ℕ
   pub birth : ℕ
 
--- a generation: its text, the jumps in it, how many patches it has, and the places of 512 pages that
--- its pages lie in
+-- a generation: its text, the jumps in it, how many patches it has, and the places of 512 pages
+-- that its pages lie in
 pub record GenState : Type 0 where
   pub number : ℕ
   pub parent : Option ℕ
@@ -31,8 +31,8 @@ pub record GenState : Type 0 where
   pub reach : List ℕ
   pub live : Bool
 
--- a hart: its generation and registers; in a try the word that it fetched, the answer of its access or
--- call, whether its write was made, and the pages that moved since the fetch; its reservation
+-- a hart: its generation and registers; in a try the word that it fetched, the answer of its access
+-- or call, whether its write was made, and the pages that moved since the fetch; its reservation
 pub record HartState : Type 0 where
   pub generation : ℕ
   pub arch : ArchState

@@ -1,5 +1,5 @@
--- What a hart may do outside the kernel, and what each entry changes.
-use Rattle.std.specs.Prelude.{ℕ, List, [], Bool, true, false, Option, Some, None, ◌≡◌, ◌≢◌, ◌==◌, ◌+◌, ◌*◌, ◌%◌, ◌^◌, ◌&&◌, ◌||◌, not, if◌then◌else◌, is_some, nat_lt, IsSomeAnd, slice_get, slice_index, option_and_then, unwrap_or}
+-- What an actor may do outside the kernel.
+use Rattle.std.specs.Prelude.{ℕ, List, Bool, true, false, Option, Some, None, ◌≡◌, ◌≢◌, ◌==◌, ◌*◌, ◌%◌, ◌^◌, ◌&&◌, ◌||◌, not, if◌then◌else◌, is_some, nat_lt, IsSomeAnd, slice_get, slice_index, option_and_then, unwrap_or}
 use Rattle.wf_outside.specs.Pages.{PageValue, page_of}
 use Rattle.std.specs.Option.{option_map}
 use Rattle.rv_alu.specs.Arithmetic.{amo_of}
@@ -16,15 +16,15 @@ use Rattle.rv_inst.specs.Meanings.{want_of, meaning_of, called}
 use Rattle.wf_flat.specs.declared.event.Actor.{Actor}
 use Rattle.wf_flat.specs.declared.event.Actor.TheVariants.{Hart, Kernel}
 use Rattle.wf_flat.specs.declared.event.Event.{Event}
-use Rattle.wf_flat.specs.declared.event.Event.TheVariants.{Fetch, Look, Take, Put, Swap, Miss, End, Enter, Sync, Again, Exit, Trap, Out, Refused, Idle}
-use Rattle.wf_flat.specs.declared.state.Life.TheVariants.{Running, Exited, Trapped}
+use Rattle.wf_flat.specs.declared.event.Event.TheVariants.{Fetch, Look, Take, Put, Swap, Miss, End, Again, Wait, Enter, Sync, Trap, Exit, Out, Idle, Map, Going, Ending, Gone, Born, Move, Dead, Refused}
+use Rattle.wf_flat.specs.declared.event.WaitFor.{WaitFor}
+use Rattle.wf_flat.specs.declared.event.WaitFor.TheVariants as waits
+use Rattle.wf_flat.specs.declared.state.Life.TheVariants.{Running}
 use Rattle.wf_flat.specs.State.{FlatState, HartState, PageState}
 use Rattle.wf_flat.specs.declared.state.Reservation.{Reservation}
-use Rattle.wf_flat.specs.Lists.{changed_at, changed_by, others_changed, with_number}
-use Rattle.wf_flat.specs.Memory.{word_at, data_in, number_in, words_with, with_met}
+use Rattle.wf_flat.specs.Memory.{word_at, data_in, number_in}
 pub use Rattle.wf_flat.specs.Accesses.{text_in, generation_text}
-use Rattle.wf_flat.specs.Accesses.{Access, access_of, accessed_text, accessed_data, is_reached, holder_is, is_free, holds, has_reserved, stands, is_barred}
-use Rattle.wf_flat.specs.Refusals.{refused_answer}
+use Rattle.wf_flat.specs.Accesses.{Access, access_of, accessed_text, accessed_data, in_reach, is_going, is_reached, holder_is, is_free, is_held_by_other, holds, has_moved, has_reserved, stands, is_barred}
 
 -- the hart is there, and P holds of it
 abbrev pub OfHart : FlatState → ℕ → (HartState → Type 0) → Type 0
@@ -42,8 +42,8 @@ want_in hart = option_map (λ inst. want_of inst hart.arch) (inst_in hart)
 abbrev pub access_in : HartState → Option Access
 access_in hart = access_of (want_in hart)
 
--- What a hart asks the kernel for: a call, whose number and arguments are in its registers; to be stopped
--- with a trap, which has this cause and value; or what its access is to do that is barred.
+-- What a hart asks the kernel for: a call, whose number and arguments are in its registers; to be
+-- stopped with a trap, which has this cause and value; or what its access is to do that is barred.
 pub data Ask : Type 0 where
   Called : Ask
   Stopped : ℕ → ℕ → Ask
@@ -72,13 +72,14 @@ ask_of_want s h hart (Some Call) = Some Called
 ask_of_want s h hart (Some (want.Trap cause value)) = Some (Stopped cause value)
 ask_of_want s h hart want = ask_of_access s h hart (access_of want)
 
--- what a hart in a try of a word asks for: of a word that is no instruction, illegal instruction with the word
--- (RISC-V privileged ISA, "Machine Cause Register")
+-- what a hart in a try of a word asks for: of a word that is no instruction, illegal instruction
+-- with the word (RISC-V privileged ISA, "Machine Cause Register")
 abbrev pub ask_of_word : FlatState → ℕ → HartState → ℕ → Option Inst → Option Ask
 ask_of_word s h hart word None = Some (Stopped ILLEGAL_INSTRUCTION word)
 ask_of_word s h hart word (Some inst) = ask_of_want s h hart (Some (want_of inst hart.arch))
 
--- what a hart that is to fetch asks for: of a pc in a page that is no text, instruction page fault with the pc
+-- what a hart that is to fetch asks for: of a pc in a page that is no text, instruction page fault
+-- with the pc
 abbrev pub ask_of_fetch : ℕ → Option ℕ → Option Ask
 ask_of_fetch pc None = Some (Stopped INSTRUCTION_PAGE_FAULT pc)
 ask_of_fetch pc (Some word) = None
@@ -93,8 +94,9 @@ ask_by s h hart (Some word) = ask_of_word s h hart word (inst_of word)
 abbrev pub ask_of : FlatState → ℕ → HartState → Option Ask
 ask_of s h hart = ask_by s h hart hart.fetched
 
--- The answer of its call: that of the own generation, call 4, is its number, and that of another is what
--- an entry of the call gave. The number is in a7, which is x17 (RISC-V ELF psABI, "Integer Register Convention").
+-- The answer of its call: that of the own generation, call 4, is its number, and that of another is
+-- what an entry of the call gave. The number is in a7, which is x17 (RISC-V ELF psABI, "Integer
+-- Register Convention").
 abbrev pub call_answer : HartState → ℕ
 call_answer hart =
     if slice_index hart.arch.x 17 == 4 then hart.generation else unwrap_or hart.looked 0
@@ -114,7 +116,8 @@ abbrev pub MayFetch : List PageValue → HartState → ℕ → ℕ → Type 0
 MayFetch text hart pc word =
     (hart.fetched ≡ None) × (pc ≡ hart.arch.pc) × (word_at text pc ≡ Some word)
 
--- it may read the page of data: that is in reach, free and below the last count of writes, or the hart holds it
+-- it may read the page of data: that is in reach, free and below the last count of writes, or the
+-- hart holds it
 abbrev pub may_read : FlatState → ℕ → HartState → Access → PageState → Bool
 may_read s h hart access page =
     is_free page && is_reached s hart access page && nat_lt page.writes s.limits.last_writes
@@ -140,8 +143,8 @@ MayLook s h hart va width value =
     (access_in hart ≡ Some access) × (hart.looked ≡ None)
     × Reads s h hart access (accessed_text s hart access) value
 
--- it has to take the page for its access: it writes, as a store-conditional where its reservation stands; or it
--- reads at the last count of writes
+-- it has to take the page for its access: it writes, as a store-conditional where its reservation
+-- stands; or it reads at the last count of writes
 abbrev pub takes_for : Option Want → FlatState → HartState → Access → PageState → Bool
 takes_for (Some (want.PutIf va width value)) s hart access page =
     stands hart.reservation access page
@@ -175,7 +178,8 @@ MayPut s h hart va width value =
     × (hart.put ≡ false)
     × IsSomeAnd (put_of (want_in hart)) (λ whole. value ≡ whole % 2 ^ (8 * width))
 
--- what an atomic memory operation makes of what it reads (RISC-V unprivileged ISA, "Atomic Memory Operations")
+-- what an atomic memory operation makes of what it reads (RISC-V unprivileged ISA, "Atomic Memory
+-- Operations")
 abbrev pub swap_of : Option Want → ℕ → Option ℕ
 swap_of (Some (want.Swap va width op value)) got = Some (amo_of op (width == 8) got value)
 swap_of want got = None
@@ -194,15 +198,15 @@ abbrev pub is_conditional : Option Want → Bool
 is_conditional (Some (want.PutIf va width value)) = true
 is_conditional want = false
 
--- its store-conditional misses at the page of data that was found: that is in reach with the right, and its
--- reservation does not stand
+-- its store-conditional misses at the page of data that was found: that is in reach with the right,
+-- and its reservation does not stand
 abbrev pub misses_page : FlatState → HartState → Access → Option PageState → Bool
 misses_page s hart access None = false
 misses_page s hart access (Some page) =
     is_reached s hart access page && not (stands hart.reservation access page)
 
--- its store-conditional misses: it has no reservation for its address and width; or its page is no own text, and it
--- misses at its page of data
+-- its store-conditional misses: it has no reservation for its address and width; or its page is no
+-- own text, and it misses at its page of data
 abbrev pub misses : FlatState → HartState → Access → Bool
 misses s hart access =
     is_lost (want_in hart) hart.reservation
@@ -238,25 +242,31 @@ MayEnd hart pc = (is_done hart (want_in hart) ≡ true) × (pc ≡ (arch_after h
 abbrev pub MayEnter : FlatState → ℕ → HartState → Type 0
 MayEnter s h hart = (s.inside ≡ None) × (ask_of s h hart ≢ None)
 
--- Where an actor outside the kernel may make an event. A hart runs, save where it idles.
-abbrev pub MayAct : FlatState → Actor → Event → Type 0
-MayAct s (Hart h) (Fetch pc word) =
-    OfHart s h
-    (λ hart. (hart.life ≡ Running) × MayFetch (generation_text s hart.generation) hart pc word)
-MayAct s (Hart h) (End pc) = OfHart s h (λ hart. (hart.life ≡ Running) × MayEnd hart pc)
-MayAct s (Hart h) (Look va width value) =
-    OfHart s h (λ hart. (hart.life ≡ Running) × MayLook s h hart va width value)
-MayAct s (Hart h) (Take page) =
-    OfHart s h (λ hart. (hart.life ≡ Running) × MayTake s hart (access_in hart) page)
-MayAct s (Hart h) (Put va width value) =
-    OfHart s h (λ hart. (hart.life ≡ Running) × MayPut s h hart va width value)
-MayAct s (Hart h) (Swap va width old new) =
-    OfHart s h (λ hart. (hart.life ≡ Running) × MaySwap s h hart va width old new)
-MayAct s (Hart h) (Miss va) =
-    OfHart s h (λ hart. (hart.life ≡ Running) × MayMiss s h hart (access_in hart) va)
-MayAct s (Hart h) Enter = OfHart s h (λ hart. (hart.life ≡ Running) × MayEnter s h hart)
-MayAct s (Hart h) Idle = OfHart s h (λ hart. hart.life ≢ Running)
-MayAct s actor event = ⊥
+-- the page of data that was found is Going
+abbrev pub is_page_going : Option PageState → Bool
+is_page_going None = false
+is_page_going (Some page) = is_going page.stage
+
+-- It may give its try up: that is of an access to this page, which has no answer; it does not hold
+-- the page, and that has moved since its fetch, or is Going.
+abbrev pub MayTryAgain : FlatState → ℕ → HartState → Option Access → ℕ → Type 0
+MayTryAgain s h hart None page = ⊥
+MayTryAgain s h hart (Some access) page =
+    (page ≡ page_of access.va) × (hart.looked ≡ None) × (holds s h access ≡ false)
+    × (has_moved hart page || is_page_going (data_in s.pages page) ≡ true)
+
+-- the page of data that was found is in reach of it, and another hart holds it
+abbrev pub is_kept_from : FlatState → ℕ → HartState → Option PageState → Bool
+is_kept_from s h hart None = false
+is_kept_from s h hart (Some page) = in_reach s hart page && is_held_by_other h page
+
+-- It may wait for the holder of this page: its try is of an access to the page, which has no
+-- answer; the page is in reach, and another hart holds it.
+abbrev pub MayWaitForPage : FlatState → ℕ → HartState → Option Access → ℕ → Type 0
+MayWaitForPage s h hart None page = ⊥
+MayWaitForPage s h hart (Some access) page =
+    (page ≡ page_of access.va) × (hart.looked ≡ None)
+    × (is_kept_from s h hart (data_in s.pages page) ≡ true)
 
 -- the two are the same actor
 abbrev pub is_same : Actor → Actor → Bool
@@ -269,154 +279,55 @@ abbrev pub is_inside : Option Actor → Actor → Bool
 is_inside None actor = false
 is_inside (Some inside) actor = is_same inside actor
 
--- who is inside when the actor has left
-abbrev pub without : Option Actor → Actor → Option Actor
-without inside actor = if is_inside inside actor then None else inside
+-- an actor finds another inside the kernel, which is this
+abbrev pub IsInWay : FlatState → Actor → Actor → Type 0
+IsInWay s actor other = (s.inside ≡ Some other) × (is_same other actor ≡ false)
 
--- one hart changes
-abbrev pub change_hart : FlatState → ℕ → (HartState → HartState) → FlatState
-change_hart s h f = record s { harts = changed_at s.harts h f }
+-- it may wait for the actor that is inside, since it asks
+abbrev pub MayWaitForKernel : FlatState → ℕ → HartState → Actor → Type 0
+MayWaitForKernel s h hart other = IsInWay s (Hart h) other × (ask_of s h hart ≢ None)
 
--- one hart leaves the kernel, if it is inside, and changes
-abbrev pub leave_hart : FlatState → ℕ → (HartState → HartState) → FlatState
-leave_hart s h f = change_hart (record s { inside = without s.inside (Hart h) }) h f
+-- it may wait: for the holder of its page, or for the actor that is inside
+abbrev pub MayWait : FlatState → ℕ → HartState → WaitFor → Type 0
+MayWait s h hart (waits.Page page) = MayWaitForPage s h hart (access_in hart) page
+MayWait s h hart (waits.Kernel other) = MayWaitForKernel s h hart other
 
--- a page of data changes
-abbrev pub change_page : FlatState → ℕ → (PageState → PageState) → FlatState
-change_page s number f = record s { pages = changed_by (λ page. page.number) s.pages number f }
+-- the hart is there and runs, and P holds of it
+abbrev pub OfRunning : FlatState → ℕ → (HartState → Type 0) → Type 0
+OfRunning s h P = OfHart s h (λ hart. (hart.life ≡ Running) × P hart)
 
--- a page that moved is noted by a hart that is in a try
-abbrev pub noted : ℕ → HartState → HartState
-noted page hart =
-    if is_some hart.fetched then record hart { moved = with_number page hart.moved } else hart
-
--- and by every hart but this
-abbrev pub note_page : FlatState → ℕ → ℕ → FlatState
-note_page s h page = record s { harts = others_changed s.harts h (noted page) }
-
--- a try begins
-abbrev pub fetched_with : ℕ → HartState → HartState
-fetched_with word hart = record hart { fetched = Some word; looked = None; put = false; moved = [] }
-
--- a try ends, with the pc and registers after its instruction
-abbrev pub ended : HartState → HartState
-ended hart = record hart { fetched = None; arch = arch_after hart }
-
--- a try ends, and the hart stops with this code
-abbrev pub exited_with : ℕ → HartState → HartState
-exited_with code hart = record hart { fetched = None; life = Exited code }
-
--- a try ends, and is to be made again
-abbrev pub tried : HartState → HartState
-tried hart = record hart { fetched = None }
-
--- a try ends, and the hart stops with this trap
-abbrev pub trapped_with : ℕ → ℕ → HartState → HartState
-trapped_with cause value hart = record hart { fetched = None; life = Trapped cause value }
-
--- a call or an access has its answer
-abbrev pub answered : ℕ → HartState → HartState
-answered answer hart = record hart { looked = Some answer }
-
--- a load-reserved leaves a reservation on a page of data below the last count of writes, and else none
-abbrev pub reservation_of : FlatState → ℕ → ℕ → Option PageState → Option Reservation
-reservation_of s va width None = None
-reservation_of s va width (Some page) =
-    if nat_lt page.writes s.limits.last_writes
-    then Some (record { va = va; width = width; birth = page.birth; writes = page.writes })
-    else None
-
--- the want is that of a load-reserved
-abbrev pub reserves : Option Want → Bool
-reserves (Some (want.Reserve va width)) = true
-reserves want = false
-
--- a load has its answer, and a load-reserved leaves a reservation
-abbrev pub looked_with : FlatState → ℕ → ℕ → ℕ → HartState → HartState
-looked_with s va width value hart =
-    record (answered value hart) {
-      reservation = if reserves (want_in hart)
-          then reservation_of s va width (data_in s.pages (page_of va)) else hart.reservation;
-    }
-
--- a write is made; a store-conditional leaves no reservation
-abbrev pub written_by : HartState → HartState
-written_by hart =
-    record (answered 0 hart) {
-      put = true;
-      reservation = if is_conditional (want_in hart) then None else hart.reservation;
-    }
-
--- an atomic memory operation is made: its answer is what it read
-abbrev pub swapped_by : ℕ → HartState → HartState
-swapped_by old hart = record (answered old hart) { put = true }
-
--- a store-conditional misses: its answer is 1, and no reservation is left
-abbrev pub missed : HartState → HartState
-missed hart = record (answered 1 hart) { reservation = None }
-
--- a page is taken by a hart
-abbrev pub taken_by : ℕ → PageState → PageState
-taken_by h page = record page { holder = Some h }
-
--- bytes of a page are written
-abbrev pub put_with : ℕ → ℕ → ℕ → PageState → PageState
-put_with at width value page = record page { words = words_with page.words at width value }
-
--- a page is given back: its writes rise by one, as far as they go, where its hart wrote
-abbrev pub given_back : ℕ → Bool → PageState → PageState
-given_back last put page =
-    record page {
-      holder = None;
-      writes = if put && nat_lt page.writes last then page.writes + 1 else page.writes;
-    }
-
--- the page of this access, if it is one that the hart holds, is given back
-abbrev pub give_back_of : FlatState → ℕ → HartState → Option Access → FlatState
-give_back_of s h hart None = s
-give_back_of s h hart (Some access) =
-    if holds s h access
-    then note_page
-    (change_page s (page_of access.va) (given_back s.limits.last_writes hart.put))
-    h (page_of access.va)
-    else s
-
--- the page that a hart, if it is there, holds for its access is given back
-abbrev pub give_back_by : FlatState → ℕ → Option HartState → FlatState
-give_back_by s h None = s
-give_back_by s h (Some hart) = give_back_of s h hart (access_in hart)
-
--- the page that the hart of a number holds for its access is given back
-abbrev pub give_back : FlatState → ℕ → FlatState
-give_back s h = give_back_by s h (slice_get s.harts h)
-
--- a generation has met a page, which is noted by the other harts that are in it and in a try
-abbrev pub noted_in : ℕ → ℕ → HartState → HartState
-noted_in generation page hart = if hart.generation == generation then noted page hart else hart
-
--- What an event of an actor changes; all else stays.
-abbrev pub flat_after : FlatState → Actor → Event → FlatState
-flat_after s (Hart h) (Fetch pc word) = change_hart s h (fetched_with word)
-flat_after s (Hart h) (Look va width value) = change_hart s h (looked_with s va width value)
-flat_after s (Hart h) (Take page) = note_page (change_page s page (taken_by h)) h page
-flat_after s (Hart h) (Put va width value) =
-    change_hart (change_page s (page_of va) (put_with (va % PAGE_SIZE) width value)) h written_by
-flat_after s (Hart h) (Swap va width old new) =
-    change_hart
-    (change_page s (page_of va) (put_with (va % PAGE_SIZE) width new)) h (swapped_by old)
-flat_after s (Hart h) (Miss va) = change_hart s h missed
-flat_after s (Hart h) (End pc) = leave_hart (give_back s h) h ended
-flat_after s actor Enter = record s { inside = Some actor }
-flat_after s (Hart h) (Sync generation page) =
-    record s {
-      inside = without s.inside (Hart h);
-      met = with_met s.met generation page;
-      harts = others_changed s.harts h (noted_in generation page);
-    }
-flat_after s (Hart h) (Exit code) = leave_hart s h (exited_with code)
-flat_after s (Hart h) (Trap cause value) = leave_hart s h (trapped_with cause value)
-flat_after s (Hart h) (Again page) = leave_hart s h tried
--- a byte that is put is answered by 0
-flat_after s (Hart h) (Out byte) = change_hart s h (answered 0)
-flat_after s (Hart h) (Refused reason) = change_hart s h (answered (refused_answer reason))
-flat_after s actor event = s
+-- Where an actor outside the kernel may make an event. A hart runs, save where it idles; the events
+-- of the last lines are made inside alone. The kernel's own actor enters, waits for the one inside,
+-- and idles.
+abbrev pub MayAct : FlatState → Actor → Event → Type 0
+MayAct s (Hart h) (Fetch pc word) =
+    OfRunning s h (λ hart. MayFetch (generation_text s hart.generation) hart pc word)
+MayAct s (Hart h) (Look va width value) =
+    OfRunning s h (λ hart. MayLook s h hart va width value)
+MayAct s (Hart h) (Take page) = OfRunning s h (λ hart. MayTake s hart (access_in hart) page)
+MayAct s (Hart h) (Put va width value) = OfRunning s h (λ hart. MayPut s h hart va width value)
+MayAct s (Hart h) (Swap va width old new) =
+    OfRunning s h (λ hart. MaySwap s h hart va width old new)
+MayAct s (Hart h) (Miss va) = OfRunning s h (λ hart. MayMiss s h hart (access_in hart) va)
+MayAct s (Hart h) (End pc) = OfRunning s h (λ hart. MayEnd hart pc)
+MayAct s (Hart h) (Again page) =
+    OfRunning s h (λ hart. MayTryAgain s h hart (access_in hart) page)
+MayAct s (Hart h) (Wait on) = OfRunning s h (λ hart. MayWait s h hart on)
+MayAct s (Hart h) Enter = OfRunning s h (λ hart. MayEnter s h hart)
+MayAct s (Hart h) Idle = OfHart s h (λ hart. hart.life ≢ Running)
+MayAct s (Hart h) (Sync generation page) = ⊥
+MayAct s (Hart h) (Trap cause value) = ⊥
+MayAct s (Hart h) (Exit code) = ⊥
+MayAct s (Hart h) (Out byte) = ⊥
+MayAct s (Hart h) (Map page n write patch) = ⊥
+MayAct s (Hart h) (Going page n) = ⊥
+MayAct s (Hart h) (Ending page) = ⊥
+MayAct s (Hart h) (Gone page worn) = ⊥
+MayAct s (Hart h) (Born generation parent patch) = ⊥
+MayAct s (Hart h) (Move generation) = ⊥
+MayAct s (Hart h) (Dead generation) = ⊥
+MayAct s (Hart h) (Refused reason) = ⊥
+MayAct s Kernel Enter = s.inside ≡ None
+MayAct s Kernel (Wait (waits.Kernel other)) = IsInWay s Kernel other
+MayAct s Kernel Idle = Unit {0}
+MayAct s Kernel event = ⊥

@@ -9,7 +9,7 @@ ghost use Rattle.wf_flat.specs.Ordered.{IsOrdered};
 ghost use Rattle.wf_flat.specs.Counts.{used_of};
 ghost use Rattle.wf_flat.specs.Boot.{fresh_page, stack_page, stack_of, stacks_of, numbered_from, boot_pages, boot_hart, boot_harts, boot_gen, boot_of, places_with};
 
-use crate::counting::{add_numbers, frames_in};
+use crate::counting::{add_places, frames_in};
 use crate::{Flat, FlatHart, FlatPage, Gen, Life, Stage};
 use rv_inst::Arch;
 use std::alloc::{AllocFailed, Global};
@@ -185,8 +185,8 @@ fn first_harts(alloc: Global, entry: u64, n: u8) -> Result<Vec<FlatHart>, Memory
     Ok(harts)
 }
 
-// The numbers of pages of text.
-fn numbers_of_text(alloc: Global, pages: &[Page]) -> Result<Vec<u32>, Memory>
+/// The numbers of pages of text.
+pub fn numbers_of_text(alloc: Global, pages: &[Page]) -> Result<Vec<u32>, Memory>
     ensures { IfOk result (λ numbers. numbers.items ≡ text_numbers pages.now) }
 {
     Ok(pages.iter().map(|page| page.number).collect(alloc)?)
@@ -208,8 +208,8 @@ fn places_of(alloc: Global, text: &[Page], pages: &[FlatPage]) -> Result<Vec<u32
     ensures rising { IfOk result (λ places. IsRising places.items) }
 {
     let mut places = Vec::new(alloc);
-    add_numbers(&mut places, &numbers_of_text(alloc, text)?)?;
-    add_numbers(&mut places, &numbers_of_data(alloc, pages)?)?;
+    add_places(&mut places, &numbers_of_text(alloc, text)?)?;
+    add_places(&mut places, &numbers_of_data(alloc, pages)?)?;
     Ok(places)
 }
 

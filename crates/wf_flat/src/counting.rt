@@ -28,7 +28,7 @@ fn add_number(numbers: &mut Vec<u32>, n: u32) -> Result<(), Memory>
 /// Adds the places of 512 pages in which the pages of these numbers lie. Where memory runs out,
 /// only the first of them may have been added.
 #[tactic(auto, using(crate::proofs::BootLemmas::place_steps))]
-pub fn add_numbers(places: &mut Vec<u32>, numbers: &[u32]) -> Result<(), Memory>
+pub fn add_places(places: &mut Vec<u32>, numbers: &[u32]) -> Result<(), Memory>
     requires { IsRising places.old.items }
     ensures ok { OnOk result (places.new.items ≡ places_with places.old.items numbers.now) }
     ensures rising { IsRising places.new.items }
@@ -49,7 +49,7 @@ pub fn frames_in(alloc: Global, pages: u64, version: &Gen) -> Result<u64, Memory
     ensures { IfOk result (λ frames. frames ≡ pages + frames_of version.now) }
 {
     let mut upper = Vec::new(alloc);
-    add_numbers(&mut upper, &version.reach)?;
+    add_places(&mut upper, &version.reach)?;
     let nodes = 1 + upper.len() as u64 + version.reach.len() as u64;
     Ok(pages + (version.text.len() as u64 + nodes))
 }

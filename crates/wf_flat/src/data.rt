@@ -1,4 +1,5 @@
-//! Pages of data: finding, taking, writing and giving them back; and the pages that generations have met.
+//! Pages of data: finding, taking, writing and giving them back; and the pages that generations
+//! have met.
 ghost use Rattle.std.specs.Prelude.{◌≡◌, ◌<◌, ◌≤◌, ◌*◌, ◌/◌, ◌%◌, ◌^◌, true, false, IfOk, OnOk, MatchOption, MatchResult, length, map, slice_get, option_copied};
 ghost use Rattle.std.specs.List.{insert};
 ghost use Rattle.wf_outside.specs.declared.sizes.TheConstants.{PAGE_SIZE};
@@ -9,7 +10,7 @@ ghost use Rattle.wf_outside.specs.Pages.{page_of};
 ghost use Rattle.wf_flat.specs.Serving.{IsPlace, IsWidth};
 ghost use Rattle.wf_flat.specs.Memory.{data_in, met_key, with_met, number_in};
 ghost use Rattle.wf_flat.specs.Ordered.{IsOrdered, page_numbers};
-ghost use Rattle.wf_flat.specs.Steps.{change_page, taken_by, put_with, given_back};
+ghost use Rattle.wf_flat.specs.Changes.{change_page, taken_by, put_with, given_back};
 
 use crate::{Flat, FlatPage};
 use wf_outside::{ADDRESS_PAGES, Memory, PAGE_SIZE};
@@ -52,8 +53,8 @@ fn add_met(met: &mut Vec<(u32, u32)>, generation: u32, page: u32) -> Result<(), 
 }
 
 impl Flat {
-    /// The page of data of a number, an address divided by 4,096; `None` where there is none. It takes
-    /// time in the logarithm of the pages.
+    /// The page of data of a number, an address divided by 4,096; `None` where there is none. It
+    /// takes time in the logarithm of the pages.
     pub fn data_page(&self, number: u64) -> Option<&FlatPage>
         requires { IsOrdered self.now }
         ensures { option_copied result ≡ data_in self.now.pages number }
@@ -70,8 +71,8 @@ impl Flat {
         met_at(&self.met, generation, page).is_ok()
     }
 
-    /// What the generations have met, with one more page that this one has not met. It takes memory, and
-    /// time in what was met.
+    /// What the generations have met, with one more page that this one has not met. It takes
+    /// memory, and time in what was met.
     pub fn met_with(&self, generation: u32, page: u32) -> Result<Vec<(u32, u32)>, Memory>
         requires ordered { IsOrdered self.now }
         requires unmet { memory.has_met self.now.met generation page ≡ false }
@@ -114,8 +115,8 @@ fn span_of(bytes: u64) -> u64
     1 << (8 * bytes)
 }
 
-// A word in which `width` bytes, 1, 2, 4 or 8, from a place on, a multiple of them, are the low ones of a
-// number.
+// A word in which `width` bytes, 1, 2, 4 or 8, from a place on, a multiple of them, are the low
+// ones of a number.
 fn word_with(word: u64, at: u64, width: u8, value: u64) -> u64
     requires within { at < 8 }
     requires place { IsPlace at width }
@@ -205,16 +206,18 @@ fn give_in(pages: &mut [FlatPage], number: u64, last_writes: u64, put: bool)
 }
 
 impl Flat {
-    // A hart takes the page of a number, where it is there.
-    pub(crate) fn take_page(&mut self, number: u64, hart: u8)
+    /// A hart takes the page of a number, where it is there. It takes time in the logarithm of the
+    /// pages.
+    pub fn take_page(&mut self, number: u64, hart: u8)
         requires { IsOrdered self.old }
         ensures { self.new ≡ change_page self.old number (taken_by hart) }
     {
         take_in(&mut self.pages, number, hart);
     }
 
-    // Bytes of a page are written, where it is there.
-    pub(crate) fn put_page(&mut self, va: u64, width: u8, value: u64)
+    /// The low `width` bytes of a value, 1, 2, 4 or 8, are written at an address, where its page is
+    /// there. It takes time in the logarithm of the pages.
+    pub fn put_page(&mut self, va: u64, width: u8, value: u64)
         requires ordered { IsOrdered self.old }
         requires place { IsPlace va width }
         ensures { self.new
@@ -231,8 +234,9 @@ impl Flat {
         limits.last_writes
     }
 
-    // The page of a number is given back, where it is there.
-    pub(crate) fn give_page(&mut self, number: u64, put: bool)
+    /// The page of a number is given back, where it is there; `put` is whether its hart wrote in
+    /// it. It takes time in the logarithm of the pages.
+    pub fn give_page(&mut self, number: u64, put: bool)
         requires { IsOrdered self.old }
         ensures { self.new
             ≡ change_page self.old number (given_back self.old.limits.last_writes put) }
@@ -241,8 +245,8 @@ impl Flat {
         give_in(&mut self.pages, number, last_writes, put);
     }
 
-    // What the generations have met is now this.
-    pub(crate) fn set_met(&mut self, met: Vec<(u32, u32)>)
+    /// What the generations have met is now this.
+    pub fn set_met(&mut self, met: Vec<(u32, u32)>)
         ensures { self.new ≡ record self.old { met = met.items } }
     {
         self.met = met;

@@ -19,8 +19,8 @@ pub enum WaitFor {
     Kernel { actor: Actor },
 }
 
-/// One change of the machine. Addresses are virtual, pages are numbers, an address divided by 4,096,
-/// widths count bytes, and values are unsigned.
+/// One change of the machine. Addresses are virtual, pages are numbers, an address divided by
+/// 4,096, widths count bytes, and values are unsigned.
 #[derive(Clone, Copy, Debug, PartialEq, Eq)]
 pub enum Event {
     /// A try begins: the word at the pc was fetched from the text of the hart's generation.

@@ -2,10 +2,10 @@
 ghost use Rattle.std.specs.Prelude.{◌≡◌, ◌<◌, ◌%◌, ℕ, false, true, length, map, slice_get};
 ghost use Rattle.std.specs.Option.{option_map};
 ghost use Rattle.wf_outside.specs.declared.sizes.TheConstants.{PAGE_SIZE};
-ghost use Rattle.wf_flat.specs.declared.event.Event.TheVariants as events;
 ghost use Rattle.wf_flat.specs.Refusals.{refused_answer};
-ghost use Rattle.wf_flat.specs.Steps.{OfHart, flat_after, fetched_with, ended, exited_with, trapped_with, answered, without, arch_after, taken_by, put_with, written_by, give_back, change_hart, leave_hart, reserves, is_conditional, want_in, access_in, looked_with, reservation_of, swapped_by, missed};
-ghost use Rattle.wf_flat.specs.Serving.{held_by, IsPlace};
+ghost use Rattle.wf_flat.specs.Steps.{OfHart, arch_after, is_conditional, want_in, access_in};
+ghost use Rattle.wf_flat.specs.Changes.{fetched_with, ended, exited_with, trapped_with, answered, without, taken_by, put_with, written_by, give_back, change_hart, leave_hart, reserves, looked_with, reservation_of, swapped_by, missed, page_taken, bytes_put, bytes_swapped, try_ended, page_met, entered};
+ghost use Rattle.wf_flat.specs.Serving.{IsAlone, IsPlace, held_by};
 ghost use Rattle.wf_outside.specs.Lists.{IsRising};
 ghost use Rattle.wf_outside.specs.Pages.{page_of};
 ghost use Rattle.wf_flat.specs.Memory.{data_in, met_key, with_met};
@@ -127,7 +127,7 @@ impl Flat {
     /// The change of a Fetch by this hart.
     pub fn fetch(&mut self, hart: u8, pc: u64, word: u32)
         requires { hart < length self.old.harts }
-        ensures state { self.new ≡ flat_after self.old (Actor.Hart hart) (events.Fetch pc word) }
+        ensures state { self.new ≡ change_hart self.old hart (fetched_with word) }
         ensures hart { slice_get self.new.harts hart
             ≡ option_map (fetched_with word) (slice_get self.old.harts hart) }
     {
@@ -135,8 +135,8 @@ impl Flat {
         state.fetch(word);
     }
 
-    // The hart leaves the kernel, if it is inside.
-    fn leave(&mut self, hart: u8)
+    /// The hart leaves the kernel, if it is inside.
+    pub fn leave(&mut self, hart: u8)
         ensures { self.new
             ≡ record self.old { inside = without self.old.inside (Actor.Hart hart) } }
     {
@@ -149,7 +149,7 @@ impl Flat {
     pub fn look(&mut self, hart: u8, va: u64, width: u8, value: u64)
         requires { OfHart self.old hart (λ state. reserves (want_in state) ≡ false) }
         ensures state { self.new
-            ≡ flat_after self.old (Actor.Hart hart) (events.Look va width value) }
+            ≡ change_hart self.old hart (looked_with self.old va width value) }
         ensures hart { slice_get self.new.harts hart
             ≡ option_map (answered value) (slice_get self.old.harts hart) }
     {
@@ -175,13 +175,13 @@ impl Flat {
         }
     }
 
-    /// The change of a Look by this hart, which is a load-reserved. It takes time in the logarithm of the
-    /// pages.
+    /// The change of a Look by this hart, which is a load-reserved. It takes time in the logarithm
+    /// of the pages.
     pub fn reserve(&mut self, hart: u8, va: u64, width: u8, value: u64)
         requires reserves { OfHart self.old hart (λ state. reserves (want_in state) ≡ true) }
         requires ordered { IsOrdered self.old }
         ensures state { self.new
-            ≡ flat_after self.old (Actor.Hart hart) (events.Look va width value) }
+            ≡ change_hart self.old hart (looked_with self.old va width value) }
         ensures hart { slice_get self.new.harts hart
             ≡ option_map (looked_with self.old va width value) (slice_get self.old.harts hart) }
     {
@@ -190,12 +190,13 @@ impl Flat {
         state.reserve(value, reservation);
     }
 
-    /// The change of a Take by this hart, on a machine of one. It takes time in the logarithm of the pages.
+    /// The change of a Take by this hart, where no other hart is in a try. It takes time in the
+    /// logarithm of the pages.
     pub fn take(&mut self, hart: u8, page: u32)
-        requires alone { length self.old.harts ≡ 1 }
+        requires alone { IsAlone self.old hart }
         requires there { hart < length self.old.harts }
         requires ordered { IsOrdered self.old }
-        ensures state { self.new ≡ flat_after self.old (Actor.Hart hart) (events.Take page) }
+        ensures state { self.new ≡ page_taken self.old hart page }
         ensures harts { self.new.harts ≡ self.old.harts }
         ensures page { data_in self.new.pages page
             ≡ option_map (taken_by hart) (data_in self.old.pages page) }
@@ -214,14 +215,13 @@ impl Flat {
         state.write();
     }
 
-    /// The change of a Put by this hart, which is no store-conditional. It takes time in the logarithm of
-    /// the pages.
+    /// The change of a Put by this hart, which is no store-conditional. It takes time in the
+    /// logarithm of the pages.
     pub fn put(&mut self, hart: u8, va: u64, width: u8, value: u64)
         requires plain { OfHart self.old hart (λ state. is_conditional (want_in state) ≡ false) }
         requires place { IsPlace va width }
         requires ordered { IsOrdered self.old }
-        ensures state { self.new
-            ≡ flat_after self.old (Actor.Hart hart) (events.Put va width value) }
+        ensures state { self.new ≡ bytes_put self.old hart va width value }
         ensures hart { slice_get self.new.harts hart
             ≡ option_map written_by (slice_get self.old.harts hart) }
         ensures page { data_in self.new.pages (page_of va)
@@ -243,15 +243,14 @@ impl Flat {
         state.write_if();
     }
 
-    /// The change of a Put by this hart, which is a store-conditional. It takes time in the logarithm of
-    /// the pages.
+    /// The change of a Put by this hart, which is a store-conditional. It takes time in the
+    /// logarithm of the pages.
     pub fn put_if(&mut self, hart: u8, va: u64, width: u8, value: u64)
         requires conditional { OfHart self.old hart
             (λ state. is_conditional (want_in state) ≡ true) }
         requires place { IsPlace va width }
         requires ordered { IsOrdered self.old }
-        ensures state { self.new
-            ≡ flat_after self.old (Actor.Hart hart) (events.Put va width value) }
+        ensures state { self.new ≡ bytes_put self.old hart va width value }
         ensures hart { slice_get self.new.harts hart
             ≡ option_map written_by (slice_get self.old.harts hart) }
         ensures page { data_in self.new.pages (page_of va)
@@ -273,14 +272,13 @@ impl Flat {
         state.swap(got);
     }
 
-    /// The change of a Swap by this hart, which read one value and writes another. It takes time in the
-    /// logarithm of the pages.
+    /// The change of a Swap by this hart, which read one value and writes another. It takes time in
+    /// the logarithm of the pages.
     pub fn swap(&mut self, hart: u8, va: u64, width: u8, got: u64, value: u64)
         requires there { hart < length self.old.harts }
         requires place { IsPlace va width }
         requires ordered { IsOrdered self.old }
-        ensures state { self.new
-            ≡ flat_after self.old (Actor.Hart hart) (events.Swap va width got value) }
+        ensures state { self.new ≡ bytes_swapped self.old hart va width got value }
         ensures hart { slice_get self.new.harts hart
             ≡ option_map (swapped_by got) (slice_get self.old.harts hart) }
         ensures page { data_in self.new.pages (page_of va)
@@ -296,7 +294,7 @@ impl Flat {
     /// The change of a Miss of this hart.
     pub fn miss(&mut self, hart: u8, va: u64)
         requires { hart < length self.old.harts }
-        ensures state { self.new ≡ flat_after self.old (Actor.Hart hart) (events.Miss va) }
+        ensures state { self.new ≡ change_hart self.old hart missed }
         ensures hart { slice_get self.new.harts hart
             ≡ option_map missed (slice_get self.old.harts hart) }
     {
@@ -313,9 +311,9 @@ impl Flat {
         state.put
     }
 
-    // The hart, which is alone, gives back the page of its access that it holds.
+    // The hart gives back the page of its access that it holds; no other hart is in a try.
     fn give_back(&mut self, hart: u8, held: Option<u32>)
-        requires alone { length self.old.harts ≡ 1 }
+        requires alone { IsAlone self.old hart }
         requires ordered { IsOrdered self.old }
         requires held { OfHart self.old hart
             (λ state. held ≡ held_by self.old hart (access_in state)) }
@@ -331,8 +329,9 @@ impl Flat {
         }
     }
 
-    // A hart leaves the kernel, if it is inside, and its try ends.
-    fn finish(&mut self, hart: u8, next: Arch)
+    /// A hart leaves the kernel, if it is inside, and its try ends: `next` are the pc and registers
+    /// after its instruction or its call.
+    pub fn finish(&mut self, hart: u8, next: Arch)
         requires { OfHart self.old hart (λ state. next ≡ arch_after state) }
         ensures { self.new ≡ leave_hart self.old hart ended }
     {
@@ -341,15 +340,16 @@ impl Flat {
         state.end(next);
     }
 
-    /// The change of an End by this hart, on a machine of one. `next` are the pc and registers after its
-    /// instruction or its call, and `held` is the page of its access, if it holds it.
+    /// The change of an End by this hart, where no other hart is in a try. `next` are the pc and
+    /// registers after its instruction or its call, and `held` is the page of its access, if it
+    /// holds it.
     pub fn end(&mut self, hart: u8, held: Option<u32>, next: Arch)
-        requires alone { length self.old.harts ≡ 1 }
+        requires alone { IsAlone self.old hart }
         requires ordered { IsOrdered self.old }
         requires held { OfHart self.old hart
             (λ state. held ≡ held_by self.old hart (access_in state)) }
         requires next { OfHart self.old hart (λ state. next ≡ arch_after state) }
-        ensures state { self.new ≡ flat_after self.old (Actor.Hart hart) (events.End next.pc) }
+        ensures state { self.new ≡ try_ended self.old hart }
         ensures hart { slice_get self.new.harts hart
             ≡ option_map ended (slice_get self.old.harts hart) }
         ensures ordered { IsOrdered self.new }
@@ -359,16 +359,16 @@ impl Flat {
         self.finish(hart, next);
     }
 
-    /// The change of a Sync by this hart, on a machine of one. `met` is what the generations have met with
-    /// the page that this one meets now, as `met_with` makes it.
+    /// The change of a Sync by this hart, where no other hart is in a try. `met` is what the
+    /// generations have met with the page that this one meets now, as `met_with` makes it.
     pub fn sync(&mut self, hart: u8, met: Vec<(u32, u32)>)
-        requires alone { length self.old.harts ≡ 1 }
+        requires alone { IsAlone self.old hart }
         requires there { hart < length self.old.harts }
         requires ordered { IsOrdered self.old }
         requires more { HasOneMore self.old.met met.items }
         requires rising { IsRising (map met_key met.items) }
         ensures state { (generation page : ℕ) → met.items ≡ with_met self.old.met generation page
-            → self.new ≡ flat_after self.old (Actor.Hart hart) (events.Sync generation page) }
+            → self.new ≡ page_met self.old hart generation page }
         ensures harts { self.new.harts ≡ self.old.harts }
         ensures ordered { IsOrdered self.new }
         ensures pages { self.new.pages ≡ self.old.pages }
@@ -379,7 +379,7 @@ impl Flat {
 
     /// The change of an Enter.
     pub fn enter(&mut self, actor: Actor)
-        ensures { self.new ≡ flat_after self.old actor events.Enter }
+        ensures { self.new ≡ entered self.old actor }
     {
         self.inside = Some(actor);
     }
@@ -387,7 +387,7 @@ impl Flat {
     /// The change of an Exit by this hart.
     pub fn exit(&mut self, hart: u8, code: u64)
         requires { hart < length self.old.harts }
-        ensures state { self.new ≡ flat_after self.old (Actor.Hart hart) (events.Exit code) }
+        ensures state { self.new ≡ leave_hart self.old hart (exited_with code) }
         ensures hart { slice_get self.new.harts hart
             ≡ option_map (exited_with code) (slice_get self.old.harts hart) }
     {
@@ -399,7 +399,7 @@ impl Flat {
     /// The change of a Trap of this hart.
     pub fn trap(&mut self, hart: u8, cause: u8, value: u64)
         requires { hart < length self.old.harts }
-        ensures state { self.new ≡ flat_after self.old (Actor.Hart hart) (events.Trap cause value) }
+        ensures state { self.new ≡ leave_hart self.old hart (trapped_with cause value) }
         ensures hart { slice_get self.new.harts hart
             ≡ option_map (trapped_with cause value) (slice_get self.old.harts hart) }
     {
@@ -411,7 +411,7 @@ impl Flat {
     /// The change of an Out by this hart.
     pub fn out(&mut self, hart: u8, byte: u8)
         requires { hart < length self.old.harts }
-        ensures state { self.new ≡ flat_after self.old (Actor.Hart hart) (events.Out byte) }
+        ensures state { self.new ≡ change_hart self.old hart (answered 0) }
         ensures hart { slice_get self.new.harts hart
             ≡ option_map (answered 0) (slice_get self.old.harts hart) }
     {
@@ -422,7 +422,8 @@ impl Flat {
     /// The change of a Refused of a call of this hart.
     pub fn refuse(&mut self, hart: u8, reason: Refusal)
         requires { hart < length self.old.harts }
-        ensures state { self.new ≡ flat_after self.old (Actor.Hart hart) (events.Refused reason) }
+        ensures state { self.new
+            ≡ change_hart self.old hart (answered (refused_answer reason)) }
         ensures hart { slice_get self.new.harts hart
             ≡ option_map (answered (refused_answer reason)) (slice_get self.old.harts hart) }
     {

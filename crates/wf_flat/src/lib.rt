@@ -10,7 +10,8 @@ mod hart;
 mod state;
 mod text;
 
-pub use booting::{BootFault, boot};
+pub use booting::{BootFault, boot, numbers_of_text};
+pub use counting::add_places;
 pub use event::{Actor, Entry, Event, WaitFor};
 pub use hart::answer_of;
 pub use state::{Flat, FlatHart, FlatPage, Gen, Life, Reservation, Stage};

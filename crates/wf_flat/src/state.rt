@@ -26,8 +26,8 @@ pub enum Life {
     Trapped { cause: u8, value: u64 },
 }
 
-/// A page of data: its number, its right, its stage, the hart that holds it, its 512 words, how often
-/// it was written since it was mapped, and the number of that mapping.
+/// A page of data: its number, its right, its stage, the hart that holds it, its 512 words, how
+/// often it was written since it was mapped, and the number of that mapping.
 #[derive(Drop)]
 pub struct FlatPage {
     pub number: u32,
@@ -59,8 +59,8 @@ impl Model for FlatPage {
     ghost invariant = { λ p. IsPage p.number p.words.items };
 }
 
-/// A generation of the text: its pages by rising number, the jumps that patches put into it, how many
-/// of the script's patches it has, and the places of 512 pages in which its pages lie, rising.
+/// A generation of the text: its pages by rising number, the jumps that patches put into it, how
+/// many of the script's patches it has, and the places of 512 pages in which its pages lie, rising.
 #[derive(Drop)]
 pub struct Gen {
     pub number: u32,
@@ -92,7 +92,8 @@ impl Model for Gen {
     ghost invariant = { λ g. IsGen g.text.items g.reach.items };
 }
 
-/// What a load-reserved left: its address and width, and the mapping and the count of writes of its page.
+/// What a load-reserved left: its address and width, and the mapping and the count of writes of its
+/// page.
 #[derive(Clone, Copy, Debug, PartialEq, Eq)]
 pub struct Reservation {
     pub va: u64,
@@ -101,8 +102,9 @@ pub struct Reservation {
     pub writes: u64,
 }
 
-/// A hart: its generation and registers; in a try the word that it fetched, the answer of its access
-/// or call, whether its write was made, and the pages that moved since the fetch; its reservation.
+/// A hart: its generation and registers; in a try the word that it fetched, the answer of its
+/// access or call, whether its write was made, and the pages that moved since the fetch; its
+/// reservation.
 #[derive(Drop)]
 pub struct FlatHart {
     pub generation: u32,
@@ -133,9 +135,9 @@ impl Model for FlatHart {
         } };
 }
 
-/// The whole machine. Data pages stand by rising number, and a generation at the place of its number.
-/// `met` says which generation has met which page, `inside` who is inside the kernel, `births` how many
-/// mappings were numbered, and `worn` how many frames are used no more.
+/// The whole machine. Data pages stand by rising number, and a generation at the place of its
+/// number. `met` says which generation has met which page, `inside` who is inside the kernel,
+/// `births` how many mappings were numbered, and `worn` how many frames are used no more.
 #[derive(Drop)]
 pub struct Flat {
     pub pages: Vec<FlatPage>,

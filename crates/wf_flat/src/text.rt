@@ -48,8 +48,8 @@ fn find_number(text: &[Page], at: u64, width: u8) -> Option<u64>
 }
 
 impl Flat {
-    /// The four bytes at an address, a multiple of 4, of a generation's text; `None` where its page is
-    /// no text of it. It takes time in the logarithm of the pages.
+    /// The four bytes at an address, a multiple of 4, of a generation's text; `None` where its page
+    /// is no text of it. It takes time in the logarithm of the pages.
     pub fn text_word(&self, generation: u32, at: u64) -> Option<u32>
         ensures { result ≡ word_at (generation_text self.now generation) at }
     {
@@ -57,9 +57,9 @@ impl Flat {
         find_word(&version.text, at)
     }
 
-    /// The number of `width` bytes, 1, 2, 4 or 8, at an address, a multiple of them, of a generation's
-    /// text, lowest first; `None` where its page is no text of it. It takes time in the logarithm of the
-    /// pages.
+    /// The number of `width` bytes, 1, 2, 4 or 8, at an address, a multiple of them, of a
+    /// generation's text, lowest first; `None` where its page is no text of it. It takes time in
+    /// the logarithm of the pages.
     pub fn text_number(&self, generation: u32, va: u64, width: u8) -> Option<u64>
         requires { IsWidth width }
         ensures { result

@@ -1,6 +1,6 @@
 -- A journal: the first lines, then entries and listings, then final lines. Any line that begins
 -- with `| ` is a listing, and any line that begins with `= ` a final line.
-use Rattle.std.specs.Prelude.{◌≡◌, ℕ, suc, List, [], ◌∷◌, ◌++◌, ◌==◌, Bool, true, false, nat_lt, nat_eq, Option, Some, None, Result, Ok, Err, codes, length, drop, if◌then◌else◌}
+use Rattle.std.specs.Prelude.{◌≡◌, ◌≤◌, ℕ, suc, List, [], ◌∷◌, ◌++◌, ◌==◌, Bool, true, false, nat_lt, nat_eq, Option, Some, None, Result, Ok, Err, codes, length, drop, if◌then◌else◌}
 use Rattle.std.specs.Str.{bytes_eq}
 use Rattle.std.specs.List.{starts_with}
 use Rattle.wf_text.specs.Lines.{lines_of, name_of}
@@ -112,6 +112,10 @@ line_at number value_of (line ∷ lines) = as_line number lines (value_of line)
 abbrev pub and_then : {A B : Type 0} → Result A ℕ → (A → Result B ℕ) → Result B ℕ
 and_then (Ok x) f = f x
 and_then (Err n) f = Err n
+
+-- a run may have so many harts and frames
+abbrev pub IsSized : ℕ → ℕ → Type 0
+IsSized harts frames = (1 ≤ harts) × (harts ≤ 64) × (64 ≤ frames) × (frames ≤ 65536)
 
 -- The first three lines: how many harts and how many frames.
 unfoldable pub sizes_of : List (List ℕ) → Result (ℕ × ℕ × List (List ℕ)) ℕ

@@ -2,7 +2,7 @@
 ghost use Rattle.std.specs.Prelude.{◌≡◌, ◌≤◌, List, ℕ, Some, IfOk, IfSome, MatchOption, None, option_map, length};
 ghost use Rattle.wf_text.specs.Lines.{lines_of};
 ghost use Rattle.wf_journal.specs.Events.{entry_of};
-ghost use Rattle.wf_journal.specs.Journals.{JournalValue, SoFar, size_of, patch_named, with_line, with_lines, started, version_of, line_at, sizes_of, journal_of, Reads, Found};
+ghost use Rattle.wf_journal.specs.Journals.{IsSized, JournalValue, SoFar, size_of, patch_named, with_line, with_lines, started, version_of, line_at, sizes_of, journal_of, Reads, Found};
 
 use crate::words::word_at;
 use std::alloc::{AllocError, AllocFailed, Global};
@@ -81,6 +81,7 @@ impl From<wf_outside::Memory> for JournalFault {
 fn size_of(line: &[u8], name: &[u8], least: u64, most: u64) -> Option<u64>
     ensures value { result ≡ size_of name.now least most line.now }
     ensures few { IfSome result (λ n. n ≤ most) }
+    ensures many { IfSome result (λ n. least ≤ n) }
 {
     if !line.starts_with(name) {
         return None;
@@ -121,6 +122,7 @@ fn size_line<'a>(
     ensures value { Found (λ x. (x.0, lines_of x.1.now)) result
         (line_at number (size_of name.now least most) (lines_of bytes.now)) }
     ensures few { IfOk result (λ x. x.0 ≤ most) }
+    ensures many { IfOk result (λ x. least ≤ x.0) }
 {
     if bytes.is_empty() {
         return Err(number);
@@ -135,7 +137,9 @@ fn size_line<'a>(
 /// The first three lines.
 #[tactic(auto, unfolding(crate::specs::Journals::sizes_of))]
 pub fn sizes_of(bytes: &[u8]) -> Result<(u8, u32, &[u8]), u64>
-    ensures { Found (λ x. (x.0, x.1, lines_of x.2.now)) result (sizes_of (lines_of bytes.now)) }
+    ensures found { Found (λ x. (x.0, x.1, lines_of x.2.now)) result
+        (sizes_of (lines_of bytes.now)) }
+    ensures sized { IfOk result (λ x. IsSized x.0 x.1) }
 {
     let rest = version_line(bytes)?;
     let (harts, rest) = size_line(rest, 2, b"harts ", 1, 64)?;

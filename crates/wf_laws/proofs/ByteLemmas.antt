@@ -7,7 +7,7 @@ use Rattle.std.proofs.Math.Nat.{div-div-eq-div-mul, mul_assoc, mul_comm, add-mul
 use Rattle.std.proofs.lemmas.Bool.{cases_order}
 use Rattle.std.proofs.lemmas.List.{get_or-set_same, get_or-set_other}
 use Rattle.wf_flat.specs.Memory.{number_in, word_with, words_with}
-use Rattle.wf_laws.specs.Laws.{byte_of}
+use Rattle.wf_laws.specs.Bytes.{byte_of}
 
 -- a byte below the place where a number is cut off
 pub byte_low : (n w i : ℕ) → i < w → byte_of (n % 2 ^ (8 * w)) i ≡ byte_of n i

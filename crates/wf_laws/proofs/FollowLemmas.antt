@@ -8,12 +8,14 @@ use Rattle.wf_flat.specs.declared.event.Event.{Event}
 use Rattle.wf_flat.specs.declared.event.Event.TheVariants.{Look, Put}
 use Rattle.wf_flat.specs.declared.event.Entry.{Entry}
 use Rattle.wf_flat.specs.State.{HartState}
-use Rattle.wf_flat.specs.Steps.{want_in, reserves}
-use Rattle.wf_flat.specs.Legal.{Moment, IsLegal, after, end_of, at_rest}
-use Rattle.wf_laws.specs.Laws.{ConditionalsFollow, HasReserved, HasNoReserve, IsConditional, IsReserving}
+use Rattle.wf_flat.specs.Steps.{want_in}
+use Rattle.wf_flat.specs.Changes.{reserves}
+use Rattle.wf_legal.specs.Legal.{Moment, IsLegal, after, end_of, at_rest}
+use Rattle.wf_laws.specs.Conditionals.{ConditionalsFollow, HasReserved, HasNoReserve, IsConditional, IsReserving}
 use Rattle.wf_laws.proofs.HolderLemmas.{entry_of}
-use Rattle.wf_laws.proofs.ReservationLemmas.{IsNoReserve, between, unreserved_end}
-use Rattle.wf_flat.proofs.JournalLemmas.{end_of-append}
+use Rattle.wf_laws.proofs.GripLemmas.{gripped_none}
+use Rattle.wf_laws.proofs.ReservationLemmas.{IsNoReserve, same_place, unreserved_end}
+use Rattle.wf_legal.proofs.JournalLemmas.{end_of-append}
 
 -- a hart is in a try of a load-reserved, or is not
 reserving_or_not : (o : Option HartState) → (IsSomeAnd o (λ hart. reserves (want_in hart) ≡ true) → ⊥) ⊎ IsSomeAnd o (λ hart. reserves (want_in hart) ≡ true)
@@ -84,16 +86,17 @@ latest m h (entry ∷ entries) = elim (latest (after m entry.actor entry.event) 
 ]
 
 pub follows : ConditionalsFollow
-follows s front back h va width value free none l conditional = elim (latest (at_rest s) h front) [
-  | inl unreserved ↦ absurd (unreserved_end s front back h va width value free none unreserved l conditional)
+follows deltas s front back h va width value free none l conditional = elim (latest (at_rest deltas s) h front) [
+  | inl unreserved ↦ absurd (unreserved_end deltas s front back h va width value free none unreserved l conditional)
   | inr it ↦ (
+      let start : Moment = at_rest deltas s in
       let r = it.reserved in
       let reads : Entry = record { actor = Hart h; event = Look it.va it.width r.value } in
       let writes : Entry = record { actor = Hart h; event = Put va width value } in
-      let behind : Moment = after (end_of (at_rest s) r.front) (Hart h) (Look it.va it.width r.value) in
-      let legal : IsLegal (at_rest s) (r.front ++ reads ∷ r.back ++ writes ∷ back) = subst (λ (es : List Entry). IsLegal (at_rest s) (es ++ writes ∷ back)) r.joined l in
-      let there : IsConditional (end_of (at_rest s) (r.front ++ reads ∷ r.back)) h = subst (λ (es : List Entry). IsConditional (end_of (at_rest s) es) h) r.joined conditional in
-      let now : IsConditional (end_of behind r.back) h = subst (λ (m : Moment). IsConditional m h) (end_of-append (at_rest s) r.front (reads ∷ r.back)) there in
-      let same = between s r.front r.back back h it.va it.width r.value va width value free legal r.reserving r.latest now in
-      subst (λ (w : ℕ). HasReserved (at_rest s) h va w front) (sym same.1) (subst (λ (a : ℕ). HasReserved (at_rest s) h a it.width front) (sym same.0) r))
+      let behind : Moment = after (end_of start r.front) (Hart h) (Look it.va it.width r.value) in
+      let legal : IsLegal start (r.front ++ reads ∷ r.back ++ writes ∷ back) = subst (λ (es : List Entry). IsLegal start (es ++ writes ∷ back)) r.joined l in
+      let there : IsConditional (end_of start (r.front ++ reads ∷ r.back)) h = subst (λ (es : List Entry). IsConditional (end_of start es) h) r.joined conditional in
+      let now : IsConditional (end_of behind r.back) h = subst (λ (m : Moment). IsConditional m h) (end_of-append start r.front (reads ∷ r.back)) there in
+      let same = same_place deltas s r.front r.back back h it.va it.width r.value va width value (gripped_none s free) legal r.reserving r.latest now in
+      subst (λ (w : ℕ). HasReserved start h va w front) (sym same.1) (subst (λ (a : ℕ). HasReserved start h a it.width front) (sym same.0) r))
 ]

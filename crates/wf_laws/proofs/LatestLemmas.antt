@@ -1,112 +1,144 @@
 -- What is read is the latest that was written.
-use Rattle.std.proofs.Common.{◌≡◌, ◌≢◌, ◌<◌, ◌≤◌, ◌⊎◌, inl, inr, ℕ, ◌+◌, ◌-◌, ◌*◌, ◌^◌, ◌%◌, ◌/◌, pow_pos, mod-lt, List, [], ◌∷◌, ◌++◌, length, Option, Some, None, Bool, true, false, ◌&&◌, map, refl, sym, subst, ap, ◌∙◌, arith}
-use Rattle.std.specs.Prelude.{IsSomeAnd, if◌then◌else◌, nat_le, nat_lt, slice_get, slice_index, unwrap_or}
+use Rattle.std.proofs.Common.{◌≡◌, ◌≢◌, ◌<◌, ◌≤◌, ◌⊎◌, inl, inr, ℕ, zero, suc, ◌+◌, ◌-◌, ◌*◌, ◌^◌, ◌%◌, ◌/◌, ◌==◌, pow_pos, mod-lt, List, [], ◌∷◌, length, Option, Some, None, Bool, true, false, ◌&&◌, refl, sym, subst, ap, ◌∙◌, arith}
+use Rattle.std.specs.Prelude.{IsSomeAnd, if◌then◌else◌, nat_le, nat_lt, replicate, slice_get, slice_index, unwrap_or}
 use Rattle.std.specs.Option.{option_map, IfSome}
-use Rattle.std.proofs.lemmas.Bool.{and_parts, cases_order}
+use Rattle.std.specs.List.{AllByRecursion}
+use Rattle.std.proofs.lemmas.Bool.{and_parts}
 use Rattle.std.proofs.lemmas.Bool.Decides.{nat_tests}
-use Rattle.std.proofs.lemmas.List.{length-set}
-use Rattle.wf_outside.specs.Pages.{PageValue, page_of}
+use Rattle.std.proofs.lemmas.List.{length-set, length-replicate}
+use Rattle.wf_outside.specs.Images.{DeltaValue}
+use Rattle.wf_outside.specs.Pages.{DataPageValue, PageValue, page_of}
 use Rattle.wf_flat.specs.declared.event.Actor.{Actor}
 use Rattle.wf_flat.specs.declared.event.Actor.TheVariants.{Hart, Kernel}
 use Rattle.wf_flat.specs.declared.event.Event.{Event}
-use Rattle.wf_flat.specs.declared.event.Event.TheVariants.{Look, Take, Put, Swap, End, Enter}
+use Rattle.wf_flat.specs.declared.event.Event.TheVariants.{Look, Take, Put, Swap, End, Map, Going, Ending, Gone}
 use Rattle.wf_flat.specs.declared.event.Entry.{Entry}
+use Rattle.wf_flat.specs.declared.state.Stage.TheVariants as stages
 use Rattle.wf_flat.specs.State.{FlatState, HartState, PageState}
-use Rattle.wf_flat.specs.Memory.{page_in, data_in, number_in, words_with}
-use Rattle.wf_flat.specs.Accesses.{Access, accessed_text, accessed_data, holds, holds_page}
-use Rattle.wf_flat.specs.Steps.{MayAct, access_in, Reads, ReadsData, flat_after, change_page, note_page, taken_by, put_with, given_back, give_back_by, give_back_of}
-use Rattle.wf_flat.specs.Legal.{Moment, Allows, IsLegal, after, at_rest}
-use Rattle.wf_laws.specs.Laws.{LooksAreLatest, SwapsAreLatest, HasWholePages, IsNoText, byte_of, data_byte, byte_after, latest_byte}
-use Rattle.wf_laws.proofs.DeterminedLemmas.{hart_of, found_all}
-use Rattle.wf_laws.proofs.StayLemmas.{Stays, stays, at_start, arrives, acts_outside, kernel_acts, text_now}
-use Rattle.wf_laws.proofs.PageLemmas.{data_changed, data_there, data_elsewhere, at_number, at_number_kept}
-use Rattle.wf_laws.proofs.HolderLemmas.{held_there}
+use Rattle.wf_flat.specs.Memory.{data_in, number_in, words_with}
+use Rattle.wf_flat.specs.Accesses.{Access, accessed_text, accessed_data}
+use Rattle.wf_flat.specs.Steps.{Reads, ReadsData}
+use Rattle.wf_flat.specs.Changes.{given_back, put_with, taken_by}
+use Rattle.wf_flat.proofs.FoundLemmas.{data_number}
+use Rattle.wf_flat.proofs.ListLemmas.{some_and}
+use Rattle.wf_effects.specs.Effects.{delta_of, ending, going_in, mapped_page, shared_words, words_of}
+use Rattle.wf_legal.specs.Events.{flat_after}
+use Rattle.wf_legal.specs.Legal.{Moment, Allows, IsLegal, after, at_rest, end_of}
+use Rattle.wf_next.proofs.ActLemmas.{at_some}
+use Rattle.wf_next.proofs.QuietLemmas.{found_all}
+use Rattle.wf_laws.specs.Holders.{IsNoText}
+use Rattle.wf_laws.specs.Bytes.{IsFresh, IsWholeDelta, LooksAreLatest, SwapsAreLatest, HasWholePages, MapsAreFresh, byte_of, data_byte, byte_after, latest_byte, mapped_byte}
+use Rattle.wf_laws.proofs.CallLemmas.{IsLateCall, acts_outside, call_kept, kernel_acts}
+use Rattle.wf_laws.proofs.CarryLemmas.{at, late_end}
+use Rattle.wf_laws.proofs.PageLemmas.{at_number, data_after, given_by, in_range, mapped_at, or_else, page_after}
+use Rattle.wf_laws.proofs.StayLemmas.{at_stays, given_stays, gone_stays, if_map}
 use Rattle.wf_laws.proofs.ByteLemmas.{byte_at, byte_read, byte_put, byte_kept}
 use Rattle.wf_laws.proofs.FitLemmas.{HaveRows, access_fits}
 
--- the words of a page of data
-abbrev words_at : List PageState → ℕ → Option (List ℕ)
-words_at pages n = option_map (λ (page : PageState). page.words) (data_in pages n)
+-- a change that keeps the words
+abbrev HoldsOfWords : (PageState → Type 0) → Type 0
+HoldsOfWords P = (p q : PageState) → p.words ≡ q.words → P p → P q
 
--- the byte of data among them
-abbrev byte_in : Option (List ℕ) → ℕ → ℕ
-byte_in words at = unwrap_or (option_map (λ (ws : List ℕ). byte_at ws (at % 4096)) words) 0
-
-byte_words : (o : Option PageState) (at : ℕ) → unwrap_or (option_map (λ (page : PageState). number_in page.words (at % 4096) 1) o) 0 ≡ byte_in (option_map (λ (page : PageState). page.words) o) at
-byte_words None at = refl
-byte_words (Some page) at = refl
-
-data_words : (s : FlatState) (at : ℕ) → data_byte s at ≡ byte_in (words_at s.pages (page_of at)) at
-data_words s at = byte_words (data_in s.pages (page_of at)) at
-
--- a page whose words stay
-map_words : (g : PageState → PageState) → ((p : PageState) → (g p).words ≡ p.words) → (o : Option PageState) → option_map (λ (page : PageState). page.words) (option_map g o) ≡ option_map (λ (page : PageState). page.words) o
-map_words g k None = refl
-map_words g k (Some page) = ap Some (k page)
-
-words_kept : (n : ℕ) (f : PageState → PageState) → ((p : PageState) → (f p).number ≡ p.number) → ((p : PageState) → (f p).words ≡ p.words) → (pages : List PageState) (k : ℕ) → words_at (map (at_number n f) pages) k ≡ words_at pages k
-words_kept n f keeps same pages k =
-    ap (option_map (λ (page : PageState). page.words)) (data_changed n f keeps pages k) ∙ map_words (at_number n f) (at_number_kept (λ (p : PageState). p.words) n f same) (data_in pages k)
-
--- a page that is given back
-given_by : (b : Bool) (s : FlatState) (h page : ℕ) (f : PageState → PageState) (k : ℕ) → ((p : PageState) → (f p).number ≡ p.number) → ((p : PageState) → (f p).words ≡ p.words) → words_at (if b then note_page (change_page s page f) h page else s).pages k ≡ words_at s.pages k
-given_by true s h page f k keeps same = words_kept page f keeps same s.pages k
-given_by false s h page f k keeps same = refl
-
-given_of : (s : FlatState) (h : ℕ) (hart : HartState) (o : Option Access) (k : ℕ) → words_at (give_back_of s h hart o).pages k ≡ words_at s.pages k
-given_of s h hart None k = refl
-given_of s h hart (Some access) k = given_by (holds s h access) s h (page_of access.va) (given_back s.limits.last_writes hart.put) k (λ p. refl) (λ p. refl)
-
-given : (s : FlatState) (h : ℕ) (o : Option HartState) (k : ℕ) → words_at (give_back_by s h o).pages k ≡ words_at s.pages k
-given s h None k = refl
-given s h (Some hart) k = given_of s h hart (access_in hart) k
-
--- each entry but a write leaves all words
-abbrev is_put : Event → Bool
-is_put (Put va width value) = true
-is_put (Swap va width old new) = true
-is_put e = false
-
-words_stay : (s : FlatState) (actor : Actor) (e : Event) (k : ℕ) → is_put e ≡ false → words_at (flat_after s actor e).pages k ≡ words_at s.pages k
-words_stay s (Hart h) (Take page) k quiet = words_kept page (taken_by h) (λ p. refl) (λ p. refl) s.pages k
-words_stay s (Hart h) (Put va width value) k quiet = absurd (cc)
-words_stay s (Hart h) (Swap va width old new) k quiet = absurd (cc)
-words_stay s (Hart h) (End pc) k quiet = given s h (slice_get s.harts h) k
-words_stay s (Hart h) e k quiet = refl
-words_stay s Kernel Enter k quiet = refl
-words_stay s Kernel e k quiet = refl
-
--- each page has 512 words
-abbrev IsWhole : FlatState → Type 0
-IsWhole s = (k : ℕ) → IfSome (words_at s.pages k) (λ (ws : List ℕ). length ws ≡ 512)
-
-put_whole : (n at width value : ℕ) (o : Option PageState) → IfSome (option_map (λ (page : PageState). page.words) o) (λ (ws : List ℕ). length ws ≡ 512)
-    → IfSome (option_map (λ (page : PageState). page.words) (option_map (at_number n (put_with at width value)) o)) (λ (ws : List ℕ). length ws ≡ 512)
-put_whole n at width value None w = tt
-put_whole n at width value (Some page) w =
-    at_number_kept (λ (p : PageState). length p.words) n (put_with at width value) (λ p. length-set p.words (at / 8) _) page ∙ w
-
-write_whole : (s : FlatState) (va width value : ℕ) → IsWhole s → IsWhole (change_page s (page_of va) (put_with (va % 4096) width value))
-write_whole s va width value w k =
-    let n : ℕ = page_of va in
-    let f : PageState → PageState = put_with (va % 4096) width value in
-    subst (λ (o : Option PageState). IfSome (option_map (λ (page : PageState). page.words) o) (λ (ws : List ℕ). length ws ≡ 512)) (sym (data_changed n f (λ p. refl) s.pages k))
-    (put_whole n (va % 4096) width value (data_in s.pages k) (w k))
-
-whole_after : (s : FlatState) (actor : Actor) (e : Event) → IsWhole s → IsWhole (flat_after s actor e)
-whole_after s (Hart h) (Put va width value) w k = write_whole s va width value w k
-whole_after s (Hart h) (Swap va width old new) w k = write_whole s va width new w k
-whole_after s Kernel (Put va width value) w k = w k
-whole_after s Kernel (Swap va width old new) w k = w k
-whole_after s (Hart h) e w k = subst (λ (o : Option (List ℕ)). IfSome o (λ (ws : List ℕ). length ws ≡ 512)) (sym (words_stay s (Hart h) e k refl)) (w k)
-whole_after s Kernel e w k = subst (λ (o : Option (List ℕ)). IfSome o (λ (ws : List ℕ). length ws ≡ 512)) (sym (words_stay s Kernel e k refl)) (w k)
-
-whole_start : (s : FlatState) → HasWholePages s → IsWhole s
-whole_start s w k = by_page (data_in s.pages k) refl
+going_words : (first n : ℕ) (p : PageState) → p.words ≡ (going_in first n p).words
+going_words first n p = by_test (nat_le first p.number && nat_lt p.number (first + n))
   where
-    by_page : (o : Option PageState) → data_in s.pages k ≡ o → IfSome (option_map (λ (page : PageState). page.words) o) (λ (ws : List ℕ). length ws ≡ 512)
-    by_page None e = tt
-    by_page (Some page) e = found_all (λ (p : PageState). length p.words ≡ 512) s.pages k page w e
+    by_test : (b : Bool) → p.words ≡ (if b then record p { stage = stages.Going } else p).words
+    by_test true = refl
+    by_test false = refl
+
+-- an event that writes or maps data
+abbrev is_write : Event → Bool
+is_write (Put va width value) = true
+is_write (Swap va width old new) = true
+is_write (Map first n write patch) = true
+is_write event = false
+
+-- what holds of the words of a page holds of it behind each other entry
+words_stay : (P : PageState → Type 0) → HoldsOfWords P → (deltas : List DeltaValue) (s : FlatState) (actor : Actor) (e : Event) (k : ℕ) (o : Option PageState) → is_write e ≡ false → IfSome o P → IfSome (page_after deltas s actor e k o) P
+words_stay P of deltas s (Hart h) (Take page) k o quiet p = if_map P (at_number page (taken_by h)) o (λ found is e. at_stays P page (taken_by h) (λ p e. of p (taken_by h p) refl e) found e) p
+words_stay P of deltas s (Hart h) (End pc) k o quiet p = if_map P (given_by s h (slice_get s.harts h)) o (λ found is e. given_stays P s h (slice_get s.harts h) (λ last put p e. of p (given_back last put p) refl e) found e) p
+words_stay P of deltas s actor (Put va width value) k o quiet p = absurd (cc)
+words_stay P of deltas s actor (Swap va width old new) k o quiet p = absurd (cc)
+words_stay P of deltas s actor (Map first n write patch) k o quiet p = absurd (cc)
+words_stay P of deltas s actor (Going first n) k o quiet p = if_map P (going_in first n) o (λ found is e. of found (going_in first n found) (going_words first n found) e) p
+words_stay P of deltas s actor (Ending page) k o quiet p = if_map P (at_number page ending) o (λ found is e. at_stays P page ending (λ p e. of p (ending p) refl e) found e) p
+words_stay P of deltas s actor (Gone page worn) k o quiet p = gone_stays P (k == page) o p
+words_stay P of deltas s actor e k o quiet p = p
+
+-- a page has its 512 words
+abbrev IsWhole : PageState → Type 0
+IsWhole page = length page.words ≡ 512
+
+whole_words : HoldsOfWords IsWhole
+whole_words p q e w = ap length (sym e) ∙ w
+
+put_whole : (va width value : ℕ) (o : Option PageState) → IfSome o IsWhole → IfSome (option_map (at_number (page_of va) (put_with (va % 4096) width value)) o) IsWhole
+put_whole va width value o w = if_map IsWhole (at_number (page_of va) (put_with (va % 4096) width value)) o
+    (λ found is e. at_stays IsWhole (page_of va) (put_with (va % 4096) width value) (λ p e. length-set p.words (va % 4096 / 8) _ ∙ e) found e) w
+
+-- so have those of patches
+zeros_whole : length {A = ℕ} (replicate 512 0) ≡ 512
+zeros_whole = length-replicate {A = ℕ} 512 0
+
+shared_whole : (shared : List DataPageValue) (page : ℕ) → AllByRecursion (λ (page : DataPageValue). length page.words ≡ 512) shared → length (shared_words shared page) ≡ 512
+shared_whole [] page whole = zeros_whole
+shared_whole (p ∷ shared) page whole = by_test (p.number == page) refl (shared_whole shared page whole.1)
+  where
+    by_test : (b : Bool) → (p.number == page) ≡ b → length (shared_words shared page) ≡ 512 → length (shared_words (p ∷ shared) page) ≡ 512
+    by_test true t rest = rw t whole.0
+    by_test false t rest = rw t rest
+
+delta_whole : (deltas : List DeltaValue) (patch : ℕ) → AllByRecursion IsWholeDelta deltas → IfSome (slice_get deltas patch) IsWholeDelta
+delta_whole [] patch whole = tt
+delta_whole (delta ∷ deltas) zero whole = whole.0
+delta_whole (delta ∷ deltas) (suc patch) whole = delta_whole deltas patch whole.1
+
+words_whole : (o : Option DeltaValue) (page : ℕ) → IfSome o IsWholeDelta → length (words_of o page) ≡ 512
+words_whole None page whole = zeros_whole
+words_whole (Some delta) page whole = shared_whole delta.shared page whole
+
+brought_whole : (deltas : List DeltaValue) (patch : Option ℕ) (page : ℕ) → AllByRecursion IsWholeDelta deltas → length (words_of (delta_of deltas patch) page) ≡ 512
+brought_whole deltas None page whole = zeros_whole
+brought_whole deltas (Some patch) page whole = words_whole (slice_get deltas patch) page (delta_whole deltas patch whole)
+
+mapped_whole : (deltas : List DeltaValue) (patch : Option ℕ) (write : Bool) (first births n k : ℕ) (o : Option PageState) → AllByRecursion IsWholeDelta deltas → IfSome o IsWhole → IfSome (or_else o (mapped_at (delta_of deltas patch) write first births n k)) IsWhole
+mapped_whole deltas patch write first births n k (Some page) whole w = w
+mapped_whole deltas patch write first births n k None whole w = by_range (in_range first n k)
+  where
+    by_range : (b : Bool) → IfSome (if b then Some (mapped_page (delta_of deltas patch) write k (births + (k - first))) else None) IsWhole
+    by_range true = brought_whole deltas patch k whole
+    by_range false = tt
+
+whole_page_after : (deltas : List DeltaValue) (s : FlatState) (actor : Actor) (e : Event) (k : ℕ) (o : Option PageState) → AllByRecursion IsWholeDelta deltas → IfSome o IsWhole → IfSome (page_after deltas s actor e k o) IsWhole
+whole_page_after deltas s (Hart h) (Put va width value) k o whole w = put_whole va width value o w
+whole_page_after deltas s (Hart h) (Swap va width old new) k o whole w = put_whole va width new o w
+whole_page_after deltas s Kernel (Put va width value) k o whole w = w
+whole_page_after deltas s Kernel (Swap va width old new) k o whole w = w
+whole_page_after deltas s (Hart h) (Map first n write patch) k o whole w = mapped_whole deltas patch write first s.births n k o whole w
+whole_page_after deltas s Kernel (Map first n write patch) k o whole w = mapped_whole deltas patch write first s.births n k o whole w
+whole_page_after deltas s (Hart h) e k o whole w = words_stay IsWhole whole_words deltas s (Hart h) e k o refl w
+whole_page_after deltas s Kernel e k o whole w = words_stay IsWhole whole_words deltas s Kernel e k o refl w
+
+-- all pages
+abbrev AreWhole : FlatState → Type 0
+AreWhole s = (k : ℕ) → IfSome (data_in s.pages k) IsWhole
+
+whole_after : (deltas : List DeltaValue) (s : FlatState) (actor : Actor) (e : Event) → AllByRecursion IsWholeDelta deltas → AreWhole s → AreWhole (flat_after deltas s actor e)
+whole_after deltas s actor e whole w k = subst (λ (o : Option PageState). IfSome o IsWhole) (sym (data_after deltas s actor e k)) (whole_page_after deltas s actor e k (data_in s.pages k) whole (w k))
+
+if_found : (P : PageState → Type 0) (pages : List PageState) (k : ℕ) (o : Option PageState) → data_in pages k ≡ o → ((page : PageState) → data_in pages k ≡ Some page → P page) → IfSome o P
+if_found P pages k None e all = tt
+if_found P pages k (Some page) e all = all page e
+
+whole_start : (s : FlatState) → HasWholePages s → AreWhole s
+whole_start s w k = if_found IsWhole s.pages k (data_in s.pages k) refl (λ page is. found_all IsWhole s.pages k page w is)
+
+-- the byte at an address is this, where its page is there
+abbrev HasByte : ℕ → ℕ → PageState → Type 0
+HasByte at byte page = byte_at page.words (at % 4096) ≡ byte
+
+byte_words : (at byte : ℕ) → HoldsOfWords (HasByte at byte)
+byte_words at byte p q e b = ap (λ (words : List ℕ). byte_at words (at % 4096)) (sym e) ∙ b
 
 -- a write in its page, and in another
 byte_written : (words : List ℕ) (va width value at : ℕ) (b : Bool) → (nat_le va at && nat_lt at (va + width)) ≡ b → length words ≡ 512 → va % 8 + width ≤ 8 → page_of at ≡ page_of va
@@ -127,135 +159,146 @@ byte_written words va width value at false t whole fits same =
       | inr over ↦ inr (omega arith)
     ])
 
-byte_elsewhere : (va width value at byte : ℕ) → va % 8 + width ≤ 8 → page_of at ≢ page_of va → byte ≡ byte_after at byte (Put va width value)
-byte_elsewhere va width value at byte fits apart =
+byte_elsewhere : (deltas : List DeltaValue) (va width value at byte : ℕ) → va % 8 + width ≤ 8 → page_of at ≢ page_of va → byte ≡ byte_after deltas at byte (Put va width value)
+byte_elsewhere deltas va width value at byte fits apart =
     let out : (nat_le va at && nat_lt at (va + width)) ≡ false = grind (arith, nat_tests) in
     rw out refl
 
--- the byte of a page that is there
-byte_there : (o : Option PageState) (page : PageState) (at : ℕ) → o ≡ Some page → unwrap_or (option_map (λ (p : PageState). number_in p.words (at % 4096) 1) o) 0 ≡ byte_at page.words (at % 4096)
-byte_there o page at e = ap (λ (o : Option PageState). unwrap_or (option_map (λ (p : PageState). number_in p.words (at % 4096) 1) o) 0) e
+put_byte : (deltas : List DeltaValue) (pages : List PageState) (va width value at byte : ℕ) (page : PageState) → data_in pages (page_of at) ≡ Some page → va % 8 + width ≤ 8 → IsWhole page → HasByte at byte page
+    → HasByte at (byte_after deltas at byte (Put va width value)) (at_number (page_of va) (put_with (va % 4096) width value) page)
+put_byte deltas pages va width value at byte page is fits whole b = by_test (page.number == page_of va) refl
+  where
+    by_test : (c : Bool) → (page.number == page_of va) ≡ c → HasByte at (byte_after deltas at byte (Put va width value)) (if c then put_with (va % 4096) width value page else page)
+    by_test true t =
+        let one : page.number ≡ page_of at = data_number pages (page_of at) page is in
+        let here : page.number ≡ page_of va = grind (arith, nat_tests) in
+        let same : page_of at ≡ page_of va = sym one ∙ here in
+        byte_written page.words va width value at (nat_le va at && nat_lt at (va + width)) refl whole fits same ∙ ap (λ (byte : ℕ). byte_after deltas at byte (Put va width value)) b
+    by_test false t =
+        let one : page.number ≡ page_of at = data_number pages (page_of at) page is in
+        let apart : page_of at ≢ page_of va = λ same. (let here : page.number ≡ page_of va = one ∙ same in grind (arith, nat_tests)) in
+        b ∙ byte_elsewhere deltas va width value at byte fits apart
 
-whole_there : (o : Option PageState) (page : PageState) → o ≡ Some page → IfSome (option_map (λ (p : PageState). p.words) o) (λ (ws : List ℕ). length ws ≡ 512) → length page.words ≡ 512
-whole_there o page e w = subst (λ (o : Option PageState). IfSome (option_map (λ (p : PageState). p.words) o) (λ (ws : List ℕ). length ws ≡ 512)) e w
+put_bytes : (deltas : List DeltaValue) (s : FlatState) (va width value at byte : ℕ) → va % 8 + width ≤ 8 → AreWhole s → IfSome (data_in s.pages (page_of at)) (HasByte at byte)
+    → IfSome (option_map (at_number (page_of va) (put_with (va % 4096) width value)) (data_in s.pages (page_of at))) (HasByte at (byte_after deltas at byte (Put va width value)))
+put_bytes deltas s va width value at byte fits whole b = by_page (data_in s.pages (page_of at)) refl (whole (page_of at)) b
+  where
+    by_page : (o : Option PageState) → data_in s.pages (page_of at) ≡ o → IfSome o IsWhole → IfSome o (HasByte at byte)
+        → IfSome (option_map (at_number (page_of va) (put_with (va % 4096) width value)) o) (HasByte at (byte_after deltas at byte (Put va width value)))
+    by_page None is w b = tt
+    by_page (Some page) is w b = put_byte deltas s.pages va width value at byte page is fits w b
 
--- the byte after a write
-put_there : (s : FlatState) (h va width value at : ℕ) (page : PageState) → data_in s.pages (page_of va) ≡ Some page → length page.words ≡ 512 → va % 8 + width ≤ 8 → page_of at ≡ page_of va
-    → data_byte (flat_after s (Hart h) (Put va width value)) at ≡ byte_after at (data_byte s at) (Put va width value)
-put_there s h va width value at page is whole fits same =
-    let f : PageState → PageState = put_with (va % 4096) width value in
-    let changed : data_in (map (at_number (page_of va) f) s.pages) (page_of at) ≡ Some (f page)
-    = ap (data_in (map (at_number (page_of va) f) s.pages)) same ∙ data_there (page_of va) f (λ p. refl) s.pages page is in
-    let before : data_byte s at ≡ byte_at page.words (at % 4096) = byte_there (data_in s.pages (page_of at)) page at (ap (data_in s.pages) same ∙ is) in
-    byte_there (data_in (map (at_number (page_of va) f) s.pages) (page_of at)) (f page) at changed
-    ∙ byte_written page.words va width value at (nat_le va at && nat_lt at (va + width)) refl whole fits same
-    ∙ ap (λ (byte : ℕ). byte_after at byte (Put va width value)) (sym before)
+-- where pages are mapped
+mapped_bytes : (deltas : List DeltaValue) (patch : Option ℕ) (write : Bool) (first births n at byte : ℕ) (c : Bool) (o : Option PageState) → in_range first n (page_of at) ≡ c → (c ≡ true → o ≡ None) → IfSome o (HasByte at byte)
+    → IfSome (or_else o (if c then Some (mapped_page (delta_of deltas patch) write (page_of at) (births + (page_of at - first))) else None)) (HasByte at (if c then mapped_byte deltas patch at else byte))
+mapped_bytes deltas patch write first births n at byte true None t fresh b = refl
+mapped_bytes deltas patch write first births n at byte true (Some page) t fresh b = absurd (let none = fresh refl in cc)
+mapped_bytes deltas patch write first births n at byte false None t fresh b = tt
+mapped_bytes deltas patch write first births n at byte false (Some page) t fresh b = b
 
-put_elsewhere : (s : FlatState) (h va width value at : ℕ) → va % 8 + width ≤ 8 → page_of at ≢ page_of va → data_byte (flat_after s (Hart h) (Put va width value)) at ≡ byte_after at (data_byte s at) (Put va width value)
-put_elsewhere s h va width value at fits apart =
-    let f : PageState → PageState = put_with (va % 4096) width value in
-    ap (λ (o : Option PageState). unwrap_or (option_map (λ (p : PageState). number_in p.words (at % 4096) 1) o) 0) (data_elsewhere (page_of va) f (λ p. refl) s.pages (page_of at) apart)
-    ∙ byte_elsewhere va width value at (data_byte s at) fits apart
+-- the byte behind each entry
+abbrev IsLatest : ℕ → ℕ → FlatState → Type 0
+IsLatest at byte s = IfSome (data_in s.pages (page_of at)) (HasByte at byte)
 
-put_held : (s : FlatState) (h va width value at : ℕ) → IsWhole s → va % 8 + width ≤ 8 → holds_page h (data_in s.pages (page_of va)) ≡ true
-    → data_byte (flat_after s (Hart h) (Put va width value)) at ≡ byte_after at (data_byte s at) (Put va width value)
-put_held s h va width value at w fits held =
-    let page = held_there h (data_in s.pages (page_of va)) held in
-    elim (cases_order (page_of at) (page_of va)) [
-      | inl same ↦ put_there s h va width value at page.0 page.1 (whole_there (data_in s.pages (page_of va)) page.0 page.1 (w (page_of va))) fits same
-      | inr other ↦ put_elsewhere s h va width value at fits (omega arith)
-    ]
+page_step : HaveRows → (m : Moment) (actor : Actor) (e : Event) (at byte : ℕ) → IsLateCall m.call → Allows m actor e → IsFresh m.flat e → AreWhole m.flat → IsLatest at byte m.flat
+    → IfSome (page_after m.deltas m.flat actor e (page_of at) (data_in m.flat.pages (page_of at))) (HasByte at (byte_after m.deltas at byte e))
+page_step rows m (Hart h) (Put va width value) at byte late a fresh whole b =
+    let w = some_and (slice_get m.flat.harts h) _ (acts_outside m h (Put va width value) refl late a) in
+    put_bytes m.deltas m.flat va width value at byte (access_fits rows w.0 _ w.2.1.0) whole b
+page_step rows m (Hart h) (Swap va width old new) at byte late a fresh whole b =
+    let w = some_and (slice_get m.flat.harts h) _ (acts_outside m h (Swap va width old new) refl late a) in
+    put_bytes m.deltas m.flat va width new at byte (access_fits rows w.0 _ w.2.1.0) whole b
+page_step rows m Kernel (Put va width value) at byte late a fresh whole b = absurd (elim (kernel_acts m (Put va width value) refl late a) [
+  | inl idle ↦ cc
+  | inr may ↦ may
+])
+page_step rows m Kernel (Swap va width old new) at byte late a fresh whole b = absurd (elim (kernel_acts m (Swap va width old new) refl late a) [
+  | inl idle ↦ cc
+  | inr may ↦ may
+])
+page_step rows m (Hart h) (Map first n write patch) at byte late a fresh whole b =
+    mapped_bytes m.deltas patch write first m.flat.births n at byte (in_range first n (page_of at)) (data_in m.flat.pages (page_of at)) refl (fresh (page_of at)) b
+page_step rows m Kernel (Map first n write patch) at byte late a fresh whole b =
+    mapped_bytes m.deltas patch write first m.flat.births n at byte (in_range first n (page_of at)) (data_in m.flat.pages (page_of at)) refl (fresh (page_of at)) b
+page_step rows m (Hart h) e at byte late a fresh whole b = words_stay (HasByte at byte) (byte_words at byte) m.deltas m.flat (Hart h) e (page_of at) (data_in m.flat.pages (page_of at)) refl b
+page_step rows m Kernel e at byte late a fresh whole b = words_stay (HasByte at byte) (byte_words at byte) m.deltas m.flat Kernel e (page_of at) (data_in m.flat.pages (page_of at)) refl b
 
-put_step : HaveRows → (s : FlatState) (h va width value at : ℕ) → IsWhole s → MayAct s (Hart h) (Put va width value) → data_byte (flat_after s (Hart h) (Put va width value)) at ≡ byte_after at (data_byte s at) (Put va width value)
-put_step rows s h va width value at w p =
-    let hart = hart_of s h (Put va width value) p in
-    put_held s h va width value at w (access_fits rows hart.0 _ hart.2.1.0) hart.2.1.1
+step : HaveRows → (m : Moment) (actor : Actor) (e : Event) (at byte : ℕ) → IsLateCall m.call → Allows m actor e → IsFresh m.flat e → AreWhole m.flat → IsLatest at byte m.flat → IsLatest at (byte_after m.deltas at byte e) (flat_after m.deltas m.flat actor e)
+step rows m actor e at byte late a fresh whole b =
+    subst (λ (o : Option PageState). IfSome o (HasByte at (byte_after m.deltas at byte e))) (sym (data_after m.deltas m.flat actor e (page_of at))) (page_step rows m actor e at byte late a fresh whole b)
 
-swap_step : HaveRows → (s : FlatState) (h va width old new at : ℕ) → IsWhole s → MayAct s (Hart h) (Swap va width old new)
-    → data_byte (flat_after s (Hart h) (Swap va width old new)) at ≡ byte_after at (data_byte s at) (Swap va width old new)
-swap_step rows s h va width old new at w p =
-    let hart = hart_of s h (Swap va width old new) p in
-    put_held s h va width new at w (access_fits rows hart.0 _ hart.2.1.0) hart.2.1.1
+along : HaveRows → (m : Moment) (front : List Entry) (at byte : ℕ) → IsLateCall m.call → AllByRecursion IsWholeDelta m.deltas → MapsAreFresh m front → AreWhole m.flat → IsLatest at byte m.flat → IsLegal m front
+    → IsLatest at (latest_byte m.deltas at byte front) (end_of m front).flat
+along rows m [] at byte late deltas fresh whole b l = b
+along rows m (entry ∷ front) at byte late deltas fresh whole b l =
+    along rows (after m entry.actor entry.event) front at (byte_after m.deltas at byte entry.event) (call_kept m entry.actor entry.event late) deltas fresh.1
+    (whole_after m.deltas m.flat entry.actor entry.event deltas whole) (step rows m entry.actor entry.event at byte late l.0 fresh.0 whole b) l.1
 
--- the byte after each entry
-step : HaveRows → (s : FlatState) (m : Moment) (actor : Actor) (e : Event) (at : ℕ) → Stays s m → IsWhole m.flat → Allows m actor e → data_byte (flat_after m.flat actor e) at ≡ byte_after at (data_byte m.flat at) e
-step rows s m (Hart h) (Put va width value) at k w a = put_step rows m.flat h va width value at w (acts_outside m h (Put va width value) refl k.quiet a)
-step rows s m (Hart h) (Swap va width old new) at k w a = swap_step rows m.flat h va width old new at w (acts_outside m h (Swap va width old new) refl k.quiet a)
-step rows s m Kernel (Put va width value) at k w a = absurd (kernel_acts m (Put va width value) refl k.quiet a)
-step rows s m Kernel (Swap va width old new) at k w a = absurd (kernel_acts m (Swap va width old new) refl k.quiet a)
-step rows s m (Hart h) e at k w a = data_words (flat_after m.flat (Hart h) e) at ∙ ap (λ (o : Option (List ℕ)). byte_in o at) (words_stay m.flat (Hart h) e (page_of at) refl) ∙ sym (data_words m.flat at)
-step rows s m Kernel e at k w a = data_words (flat_after m.flat Kernel e) at ∙ ap (λ (o : Option (List ℕ)). byte_in o at) (words_stay m.flat Kernel e (page_of at) refl) ∙ sym (data_words m.flat at)
+-- at the start
+byte_start : (s : FlatState) (at : ℕ) → IsLatest at (data_byte s at) s
+byte_start s at = by_page (data_in s.pages (page_of at))
+  where
+    by_page : (o : Option PageState) → IfSome o (HasByte at (unwrap_or (option_map (λ (page : PageState). number_in page.words (at % 4096) 1) o) 0))
+    by_page None = tt
+    by_page (Some page) = refl
 
 -- these bytes are read in the page
 abbrev IsReadIn : ℕ → ℕ → ℕ → PageState → Type 0
 IsReadIn va width value page = value ≡ number_in page.words (va % 4096) width
 
 -- what a read of data gives
-read_data : (s : FlatState) (va width value i : ℕ) (o : Option PageState) → data_in s.pages (page_of va) ≡ o → IsSomeAnd o (IsReadIn va width value) → va % 8 + width ≤ 8 → i < width → byte_of value i ≡ data_byte s (va + i)
-read_data s va width value i None is p fits below = absurd p
-read_data s va width value i (Some page) is p fits below =
+read_data : (s : FlatState) (va width value i byte : ℕ) → IsSomeAnd (data_in s.pages (page_of va)) (IsReadIn va width value) → va % 8 + width ≤ 8 → i < width → IsLatest (va + i) byte s → byte_of value i ≡ byte
+read_data s va width value i byte p fits below b =
+    let w = some_and (data_in s.pages (page_of va)) _ p in
     let low : va % 4096 % 8 + width ≤ 8 = omega arith in
     let same : page_of (va + i) ≡ page_of va = omega arith in
     let place : (va + i) % 4096 ≡ va % 4096 + i = omega arith in
-    let there : data_byte s (va + i) ≡ byte_at page.words ((va + i) % 4096) = byte_there (data_in s.pages (page_of (va + i))) page (va + i) (ap (data_in s.pages) same ∙ is) in
-    ap (λ (n : ℕ). byte_of n i) p ∙ byte_read page.words (va % 4096) width i low below ∙ sym (ap (byte_at page.words) place) ∙ sym there
+    let there : data_in s.pages (page_of (va + i)) ≡ Some w.0 = ap (data_in s.pages) same ∙ w.1 in
+    let found : byte_at w.0.words ((va + i) % 4096) ≡ byte = subst (λ (o : Option PageState). IfSome o (HasByte (va + i) byte)) there b in
+    ap (λ (n : ℕ). byte_of n i) w.2 ∙ byte_read w.0.words (va % 4096) width i low below ∙ sym (ap (byte_at w.0.words) place) ∙ found
 
 reads_in : (s : FlatState) (h : ℕ) (hart : HartState) (access : Access) (value : ℕ) (o : Option PageState) → ReadsData s h hart access o value → IsSomeAnd o (IsReadIn access.va access.width value)
 reads_in s h hart access value None p = p
 reads_in s h hart access value (Some page) p = p.1
 
-at_look : HaveRows → (s : FlatState) (m : Moment) (h va width value i : ℕ) → Stays s m → Allows m (Hart h) (Look va width value) → IsNoText s h (page_of va) → i < width → byte_of value i ≡ data_byte m.flat (va + i)
-at_look rows s m h va width value i k a none below =
-    let access : Access = record { va = va; width = width; write = false } in
-    let w = hart_of m.flat h (Look va width value) (acts_outside m h (Look va width value) refl k.quiet a) in
-    let not_text : accessed_text m.flat w.0 access ≡ None = text_now s m h w.0 (λ (text : List PageValue). page_in text (page_of va) ≡ None) k w.1 none in
-    let reads : ReadsData m.flat h w.0 access (accessed_data m.flat access) value = subst (λ (o : Option PageValue). Reads m.flat h w.0 access o value) not_text w.2.1.2 in
-    read_data m.flat va width value i (accessed_data m.flat access) refl (reads_in m.flat h w.0 access value (accessed_data m.flat access) reads) (access_fits rows w.0 access w.2.1.0) below
-
-at_swap : HaveRows → (s : FlatState) (m : Moment) (h va width old new i : ℕ) → Stays s m → Allows m (Hart h) (Swap va width old new) → i < width → byte_of old i ≡ data_byte m.flat (va + i)
-at_swap rows s m h va width old new i k a below =
-    let w = hart_of m.flat h (Swap va width old new) (acts_outside m h (Swap va width old new) refl k.quiet a) in
-    read_data m.flat va width old i (data_in m.flat.pages (page_of va)) refl w.2.1.4 (access_fits rows w.0 _ w.2.1.0) below
-
 -- it has so many bytes
-number_low : (words : List ℕ) (at width value : ℕ) → value ≡ number_in words at width → value < 2 ^ (8 * width)
-number_low words at width value p = subst (λ (n : ℕ). n < 2 ^ (8 * width)) (sym p) (mod-lt (slice_index words (at / 8) / 2 ^ (8 * (at % 8))) (pow_pos (8 * width)))
-
 data_low : (va width value : ℕ) (o : Option PageState) → IsSomeAnd o (IsReadIn va width value) → value < 2 ^ (8 * width)
-data_low va width value None p = absurd p
-data_low va width value (Some page) p = number_low page.words (va % 4096) width value p
+data_low va width value o p =
+    let w = some_and o _ p in
+    subst (λ (n : ℕ). n < 2 ^ (8 * width)) (sym w.2) (mod-lt (slice_index w.0.words (va % 4096 / 8) / 2 ^ (8 * (va % 4096 % 8))) (pow_pos (8 * width)))
 
-read_low : (s : FlatState) (h : ℕ) (hart : HartState) (access : Access) (value : ℕ) (o : Option PageValue) → Reads s h hart access o value → value < 2 ^ (8 * access.width)
-read_low s h hart access value None p = data_low access.va access.width value (accessed_data s access) (reads_in s h hart access value (accessed_data s access) p)
-read_low s h hart access value (Some page) p = number_low page.words (access.va % 4096) access.width value p
+-- a hart that reads data
+record Reading (m : Moment) (va width value : ℕ) : Type 0 where
+  is : IsSomeAnd (data_in m.flat.pages (page_of va)) (IsReadIn va width value)
+  fits : va % 8 + width ≤ 8
 
-look_low : (s : FlatState) (m : Moment) (h va width value : ℕ) → Stays s m → Allows m (Hart h) (Look va width value) → value < 2 ^ (8 * width)
-look_low s m h va width value k a =
+at_look : HaveRows → (m : Moment) (h va width value : ℕ) → IsLateCall m.call → Allows m (Hart h) (Look va width value) → IsNoText m.flat h (page_of va) → Reading m va width value
+at_look rows m h va width value late a none =
     let access : Access = record { va = va; width = width; write = false } in
-    let w = hart_of m.flat h (Look va width value) (acts_outside m h (Look va width value) refl k.quiet a) in
-    read_low m.flat h w.0 access value (accessed_text m.flat w.0 access) w.2.1.2
+    let w = some_and (slice_get m.flat.harts h) _ (acts_outside m h (Look va width value) refl late a) in
+    let not_text : accessed_text m.flat w.0 access ≡ None = at_some (slice_get m.flat.harts h) _ w.0 w.1 none in
+    let reads : ReadsData m.flat h w.0 access (accessed_data m.flat access) value = subst (λ (o : Option PageValue). Reads m.flat h w.0 access o value) not_text w.2.1.2 in
+    record { is = reads_in m.flat h w.0 access value (accessed_data m.flat access) reads; fits = access_fits rows w.0 access w.2.1.0 }
 
-swap_low : (s : FlatState) (m : Moment) (h va width old new : ℕ) → Stays s m → Allows m (Hart h) (Swap va width old new) → old < 2 ^ (8 * width)
-swap_low s m h va width old new k a =
-    let w = hart_of m.flat h (Swap va width old new) (acts_outside m h (Swap va width old new) refl k.quiet a) in
-    data_low va width old (data_in m.flat.pages (page_of va)) w.2.1.4
+at_swap : HaveRows → (m : Moment) (h va width old new : ℕ) → IsLateCall m.call → Allows m (Hart h) (Swap va width old new) → Reading m va width old
+at_swap rows m h va width old new late a =
+    let w = some_and (slice_get m.flat.harts h) _ (acts_outside m h (Swap va width old new) refl late a) in
+    record { is = w.2.1.4; fits = access_fits rows w.0 _ w.2.1.0 }
 
--- the byte that an entry finds is the latest
-along : HaveRows → (s : FlatState) (m : Moment) (front back : List Entry) (actor : Actor) (e : Event) (at byte : ℕ) → Stays s m → IsWhole m.flat → ((n : Moment) → Stays s n → Allows n actor e → byte ≡ data_byte n.flat at)
-    → IsLegal m (front ++ record { actor = actor; event = e } ∷ back) → byte ≡ latest_byte at (data_byte m.flat at) front
-along rows s m [] back actor e at byte k w finds l = finds m k l.0
-along rows s m (entry ∷ front) back actor e at byte k w finds l =
-    along rows s (after m entry.actor entry.event) front back actor e at byte (stays s m entry.actor entry.event k) (whole_after m.flat entry.actor entry.event w) finds l.1
-    ∙ ap (λ (byte : ℕ). latest_byte at byte front) (step rows s m entry.actor entry.event at k w l.0)
+reading : HaveRows → (deltas : List DeltaValue) (s : FlatState) (front : List Entry) (va width value : ℕ) → HasWholePages s → AllByRecursion IsWholeDelta deltas → MapsAreFresh (at_rest deltas s) front → IsLegal (at_rest deltas s) front
+    → Reading (end_of (at_rest deltas s) front) va width value → (value < 2 ^ (8 * width)) × ((i : ℕ) → i < width → byte_of value i ≡ latest_byte deltas (va + i) (data_byte s (va + i)) front)
+reading rows deltas s front va width value whole patches fresh l r = (
+  data_low va width value (data_in (end_of (at_rest deltas s) front).flat.pages (page_of va)) r.is,
+  λ i below. read_data (end_of (at_rest deltas s) front).flat va width value i (latest_byte deltas (va + i) (data_byte s (va + i)) front) r.is r.fits below
+      (along rows (at_rest deltas s) front (va + i) (data_byte s (va + i)) tt patches fresh (whole_start s whole) (byte_start s (va + i)) l),
+)
 
 pub latest : HaveRows → LooksAreLatest
-latest rows s front back h va width value whole l none = (
-  arrives s (at_rest s) front back (Hart h) (Look va width value) (value < 2 ^ (8 * width)) (at_start s) (λ n k a. look_low s n h va width value k a) l,
-  λ i below. along rows s (at_rest s) front back (Hart h) (Look va width value) (va + i) (byte_of value i) (at_start s) (whole_start s whole) (λ n k a. at_look rows s n h va width value i k a none below) l,
-)
+latest rows deltas s front back h va width value whole patches fresh l none =
+    let w = at (at_rest deltas s) front (record { actor = Hart h; event = Look va width value }) back l in
+    reading rows deltas s front va width value whole patches fresh w.legal (at_look rows (end_of (at_rest deltas s) front) h va width value (late_end (at_rest deltas s) front tt w.legal) w.allowed none)
 
 pub swaps : HaveRows → SwapsAreLatest
-swaps rows s front back h va width old new whole l = (
-  arrives s (at_rest s) front back (Hart h) (Swap va width old new) (old < 2 ^ (8 * width)) (at_start s) (λ n k a. swap_low s n h va width old new k a) l,
-  λ i below. along rows s (at_rest s) front back (Hart h) (Swap va width old new) (va + i) (byte_of old i) (at_start s) (whole_start s whole) (λ n k a. at_swap rows s n h va width old new i k a below) l,
-)
+swaps rows deltas s front back h va width old new whole patches fresh l =
+    let w = at (at_rest deltas s) front (record { actor = Hart h; event = Swap va width old new }) back l in
+    reading rows deltas s front va width old whole patches fresh w.legal (at_swap rows (end_of (at_rest deltas s) front) h va width old new (late_end (at_rest deltas s) front tt w.legal) w.allowed)

@@ -1,12 +1,22 @@
--- The machine at its start: nobody holds a page, each page of data is whole, and no hart has a reservation.
-use Rattle.std.proofs.Common.{◌≡◌, ◌++◌, ◌+◌, ℕ, zero, suc, List, [], ◌∷◌, None, length, map, replicate, refl}
+-- The machine at its start: nobody holds a page, each page of data is whole, no hart has a reservation, and
+-- all are in generation 0.
+use Rattle.std.proofs.Common.{◌≡◌, ◌++◌, ◌+◌, ◌<◌, ◌≤◌, ℕ, zero, suc, List, [], ◌∷◌, Option, None, true, length, map, replicate, refl, sym, subst, ap, arith}
+use Rattle.std.specs.Option.{IfSome}
 use Rattle.std.specs.List.{AllByRecursion}
 use Rattle.std.proofs.lemmas.List.{length-replicate}
 use Rattle.wf_outside.specs.Pages.{DataPageValue}
-use Rattle.wf_flat.specs.State.{PageState, HartState}
+use Rattle.wf_outside.specs.Images.{ImageValue}
+use Rattle.wf_outside.specs.Pages.{LimitsValue}
+use Rattle.wf_flat.specs.declared.state.Life.TheVariants.{Running}
+use Rattle.wf_flat.specs.State.{FlatState, GenState, PageState, HartState}
+use Rattle.wf_flat.specs.Steps.{OfHart}
+use Rattle.wf_effects.specs.Generations.{is_live}
+use Rattle.wf_legal.proofs.JournalLemmas.{legal_front}
+use Rattle.wf_laws.specs.Dead.{StandsByNumber}
+use Rattle.wf_laws.specs.Holders.{IsTryingAt}
 use Rattle.wf_flat.specs.Lists.{sorted_by}
-use Rattle.wf_flat.specs.Boot.{fresh_page, stacks_of, stack_of, numbered_from, boot_pages, boot_hart, boot_harts}
-use Rattle.wf_laws.specs.Laws.{StartsAreQuiet}
+use Rattle.wf_flat.specs.Boot.{boot_gen, boot_of, fresh_page, stacks_of, stack_of, numbered_from, boot_pages, boot_hart, boot_harts}
+use Rattle.wf_laws.specs.Starts.{FrontsAreLegal, StartsAreQuiet}
 use Rattle.wf_flat.proofs.ListLemmas.{all_append}
 use Rattle.wf_flat.proofs.SortLemmas.{all_sorted}
 
@@ -50,9 +60,51 @@ whole : (pages : List PageState) → AllByRecursion IsFree pages → AllByRecurs
 whole [] all = tt
 whole (page ∷ pages) all = (all.0.1, whole pages all.1)
 
+tries : (s : FlatState) (pages : List PageState) → AllByRecursion IsFree pages → AllByRecursion (λ page. IfSome page.holder (λ h. OfHart s h (IsTryingAt s h page.number))) pages
+tries s [] all = tt
+tries s (page ∷ pages) all = (subst (λ (o : Option ℕ). IfSome o (λ h. OfHart s h (IsTryingAt s h page.number))) (sym all.0.0) tt, tries s pages all.1)
+
+-- births are numbered
+length_numbered : (birth : ℕ) (pages : List PageState) → length (numbered_from birth pages) ≡ length pages
+unfolding numbered_from
+length_numbered birth [] = refl
+length_numbered birth (page ∷ pages) = ap suc (length_numbered (birth + 1) pages)
+
+births_old : (birth last : ℕ) (pages : List PageState) → birth + length pages ≤ last → AllByRecursion (λ page. page.birth < last) (numbered_from birth pages)
+unfolding numbered_from
+births_old birth last [] low = tt
+births_old birth last (page ∷ pages) low = (omega arith, births_old (birth + 1) last pages (omega arith))
+
+-- each hart is in generation 0
+harts_first : (entry n : ℕ) → AllByRecursion (λ (hart : HartState). hart.generation ≡ 0) (boot_harts entry n)
+unfolding boot_harts
+harts_first entry zero = tt
+harts_first entry (suc n) = all_append (λ (hart : HartState). hart.generation ≡ 0) (boot_harts entry n) (boot_hart entry n ∷ []) (harts_first entry n) (refl, tt)
+
+first_lives : (s : FlatState) (harts : List HartState) → is_live s 0 ≡ true → AllByRecursion (λ (hart : HartState). hart.generation ≡ 0) harts → AllByRecursion (λ (hart : HartState). hart.life ≡ Running → is_live s hart.generation ≡ true) harts
+first_lives s [] live all = tt
+first_lives s (hart ∷ harts) live all = (λ runs. subst (λ (g : ℕ). is_live s g ≡ true) (sym all.0) live, first_lives s harts live all.1)
+
+stands : (image : ImageValue) (harts : ℕ) (limits : LimitsValue) → StandsByNumber (boot_of image harts limits)
+stands image harts limits zero gen is = (let same : boot_gen image harts ≡ gen = cc in sym (ap (λ (gen : GenState). gen.number) same))
+stands image harts limits (suc g) gen is = absurd (cc)
+
 pub quiet : StartsAreQuiet
 quiet image harts limits full =
+    let s : FlatState = boot_of image harts limits in
     let sorted : List PageState = sorted_by (λ (page : PageState). page.number) (map fresh_page image.pages) in
     let free : AllByRecursion IsFree (boot_pages image harts) =
     numbered_free 0 (sorted ++ stacks_of harts) (all_append IsFree sorted (stacks_of harts) (all_sorted IsFree (λ (page : PageState). page.number) (map fresh_page image.pages) (fresh_free image.pages full)) (stacks_free harts)) in
-    (unheld (boot_pages image harts) free, harts_unreserved image.entry harts, whole (boot_pages image harts) free)
+    let count : length (boot_pages image harts) ≡ length (sorted ++ stacks_of harts) = length_numbered 0 (sorted ++ stacks_of harts) in
+    record {
+      holds_none = unheld (boot_pages image harts) free;
+      holders_try = tries s (boot_pages image harts) free;
+      no_reservation = harts_unreserved image.entry harts;
+      whole_pages = whole (boot_pages image harts) free;
+      old_births = births_old 0 (length (boot_pages image harts)) (sorted ++ stacks_of harts) (omega arith);
+      by_number = stands image harts limits;
+      in_live = first_lives s (boot_harts image.entry harts) refl (harts_first image.entry harts);
+    }
+
+pub fronts : FrontsAreLegal
+fronts m front back l = legal_front m front back l

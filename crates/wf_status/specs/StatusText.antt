@@ -2,11 +2,13 @@
 use Rattle.std.specs.Prelude.{◌++◌, ℕ, List, [], false, codes}
 use Rattle.std.specs.Fmt.{decimal, digits}
 use Rattle.wf_status.specs.declared.status.Status.{Status}
-use Rattle.wf_status.specs.declared.status.Status.TheVariants.{Done, Words, Image, Source, Shelf, Sink, Memory, Limit, Unbuilt}
+use Rattle.wf_status.specs.declared.status.Status.TheVariants.{Done, Words, Image, Source, Journal, Shelf, Sink, Memory, Limit, Illegal, Unbuilt}
 use Rattle.wf_status.specs.declared.status.LimitKind.{LimitKind}
 use Rattle.wf_status.specs.declared.status.LimitKind.TheVariants.{File, Frames}
 use Rattle.wf_status.specs.declared.status.Unbuilt.{Unbuilt as UnbuiltPart}
-use Rattle.wf_status.specs.declared.status.Unbuilt.TheVariants.{Script, Journal, Step}
+use Rattle.wf_status.specs.declared.status.Unbuilt.TheVariants as unbuilt
+use Rattle.wf_status.specs.declared.entries.EntryRule.{EntryRule}
+use Rattle.wf_status.specs.declared.entries.EntryRule.TheVariants as entry
 use Rattle.wf_status.specs.declared.rules.ImageRule.{ImageRule}
 use Rattle.wf_status.specs.declared.sources.SourceRule.{SourceRule}
 use Rattle.wf_status.specs.declared.sources.SourceRule.TheVariants as source
@@ -18,10 +20,12 @@ code_of Done = 0
 code_of Words = 1
 code_of (Image rule at) = 2
 code_of (Source rule line) = 4
+code_of (Journal line) = 4
 code_of Shelf = 5
 code_of Sink = 6
 code_of Memory = 7
 code_of (Limit what number most) = 8
+code_of (Illegal index rule) = 9
 code_of (Unbuilt what) = 10
 
 -- the word for what has a limit
@@ -31,9 +35,9 @@ limit_text Frames = codes "frames"
 
 -- the words for what is not built: addresses are hexadecimal, lines decimal
 abbrev pub unbuilt_text : UnbuiltPart → List ℕ
-unbuilt_text (Script line) = codes "script line " ++ decimal line
-unbuilt_text Journal = codes "journal"
-unbuilt_text (Step pc) = codes "step " ++ digits 16 false pc
+unbuilt_text (unbuilt.Script line) = codes "script line " ++ decimal line
+unbuilt_text unbuilt.Journal = codes "journal"
+unbuilt_text (unbuilt.Step pc) = codes "step " ++ digits 16 false pc
 
 -- the word for a rule of images
 abbrev pub rule_text : ImageRule → List ℕ
@@ -63,6 +67,33 @@ source_text source.Twice = codes "twice"
 source_text source.Unknown = codes "unknown"
 source_text source.Range = codes "range"
 
+-- the word for what a journal breaks: that of its entry, or `final`
+abbrev pub entry_rule_text : EntryRule → List ℕ
+entry_rule_text entry.Fetch = codes "fetch"
+entry_rule_text entry.Look = codes "look"
+entry_rule_text entry.Take = codes "take"
+entry_rule_text entry.Put = codes "put"
+entry_rule_text entry.Swap = codes "swap"
+entry_rule_text entry.Miss = codes "miss"
+entry_rule_text entry.End = codes "end"
+entry_rule_text entry.Again = codes "again"
+entry_rule_text entry.Wait = codes "wait"
+entry_rule_text entry.Enter = codes "enter"
+entry_rule_text entry.Sync = codes "sync"
+entry_rule_text entry.Trap = codes "trap"
+entry_rule_text entry.Exit = codes "exit"
+entry_rule_text entry.Out = codes "out"
+entry_rule_text entry.Idle = codes "idle"
+entry_rule_text entry.Map = codes "map"
+entry_rule_text entry.Going = codes "going"
+entry_rule_text entry.Ending = codes "ending"
+entry_rule_text entry.Gone = codes "gone"
+entry_rule_text entry.Born = codes "born"
+entry_rule_text entry.Move = codes "move"
+entry_rule_text entry.Dead = codes "dead"
+entry_rule_text entry.Refused = codes "refused"
+entry_rule_text entry.Final = codes "final"
+
 -- the line, without its newline; none for a run that was done
 abbrev pub line_of : Status → List ℕ
 line_of Done = []
@@ -70,6 +101,7 @@ line_of Words = codes "wfpatch: words"
 line_of (Image rule at) = codes "wfpatch: image " ++ rule_text rule ++ codes " at " ++ decimal at
 line_of (Source rule line) =
     codes "wfpatch: source line " ++ decimal line ++ codes " " ++ source_text rule
+line_of (Journal line) = codes "wfpatch: journal line " ++ decimal line
 line_of Shelf = codes "wfpatch: shelf"
 line_of Sink = codes "wfpatch: sink"
 line_of Memory = codes "wfpatch: memory"
@@ -80,4 +112,6 @@ line_of (Limit what number most) =
     ++ decimal number
     ++ codes " of "
     ++ decimal most
+line_of (Illegal index rule) =
+    codes "wfpatch: illegal entry " ++ decimal index ++ codes " " ++ entry_rule_text rule
 line_of (Unbuilt what) = codes "wfpatch: unbuilt " ++ unbuilt_text what

@@ -2,7 +2,7 @@
 ghost use Rattle.std.specs.Prelude.{◌≡◌, IfOk};
 ghost use Rattle.wf_status.specs.StatusText.{code_of, line_of};
 
-use crate::{ImageRule, SourceRule};
+use crate::{EntryRule, ImageRule, SourceRule};
 use std::alloc::Global;
 use std::fmt;
 use wf_outside::{Memory, Text};
@@ -44,6 +44,10 @@ pub enum Status {
         rule: SourceRule,
         line: u64,
     },
+    /// This line of the journal, counted from 1, is the first that may not stand where it does.
+    Journal {
+        line: u64,
+    },
     /// A file could not be read.
     Shelf,
     /// The output could not be put.
@@ -56,6 +60,12 @@ pub enum Status {
         number: u64,
         most: u64,
     },
+    /// The entry at this place, counted from 0, is the first that the machine does not allow; or
+    /// the final lines, which stand behind all entries, do not show the machine at its end.
+    Illegal {
+        index: u64,
+        rule: EntryRule,
+    },
     /// The run needs what is not built yet.
     Unbuilt {
         what: Unbuilt,
@@ -63,8 +73,8 @@ pub enum Status {
 }
 
 impl Status {
-    /// The exit status: 0 for `Done`, 1 for `Words`, 2 for `Image`, 4 for `Source`, 5 for `Shelf`,
-    /// 6 for `Sink`, 7 for `Memory`, 8 for `Limit`, 10 for `Unbuilt`.
+    /// The exit status: 0 for `Done`, 1 for `Words`, 2 for `Image`, 4 for `Source` and `Journal`, 5
+    /// for `Shelf`, 6 for `Sink`, 7 for `Memory`, 8 for `Limit`, 9 for `Illegal`, 10 for `Unbuilt`.
     pub fn code(&self) -> u8
         ensures { result ≡ code_of self.now }
     {
@@ -73,10 +83,12 @@ impl Status {
             Status::Words => 1,
             Status::Image { .. } => 2,
             Status::Source { .. } => 4,
+            Status::Journal { .. } => 4,
             Status::Shelf => 5,
             Status::Sink => 6,
             Status::Memory => 7,
             Status::Limit { .. } => 8,
+            Status::Illegal { .. } => 9,
             Status::Unbuilt { .. } => 10,
         }
     }
@@ -132,12 +144,14 @@ impl fmt::Display for Status {
             Status::Words => write!(f, "wfpatch: words"),
             Status::Image { rule, at } => write!(f, "wfpatch: image {rule} at {at}"),
             Status::Source { rule, line } => write!(f, "wfpatch: source line {line} {rule}"),
+            Status::Journal { line } => write!(f, "wfpatch: journal line {line}"),
             Status::Shelf => write!(f, "wfpatch: shelf"),
             Status::Sink => write!(f, "wfpatch: sink"),
             Status::Memory => write!(f, "wfpatch: memory"),
             Status::Limit { what, number, most } => {
                 write!(f, "wfpatch: limit {what} {number} of {most}")
             }
+            Status::Illegal { index, rule } => write!(f, "wfpatch: illegal entry {index} {rule}"),
             Status::Unbuilt { what } => write!(f, "wfpatch: unbuilt {what}"),
         }
     }

@@ -16,7 +16,7 @@ use Rattle.wf_flat.specs.State.{FlatState, HartState, PageState}
 use Rattle.wf_flat.specs.Memory.{data_in, number_in, has_met}
 use Rattle.wf_flat.specs.Accesses.{Access, access_of, accessed_text, accessed_data, has_right, is_reached, holds, holds_page, is_barred, is_open, is_free, has_moved}
 use Rattle.wf_flat.specs.Steps.{Faulted, inst_in, want_in, access_in, ask_by, ask_of, ask_of_want, ask_of_word, ask_of_access, is_lost, may_read, Reads, TakesData, MayTake, takes_for}
-use Rattle.wf_flat.specs.Calls.{todo_by, todo_of_access, todo_of_page, access_trap}
+use Rattle.wf_legal.specs.Calls.{todo_by, todo_of_access, todo_of_page, access_trap}
 use Rattle.wf_step.specs.Stepping.{IsTrying, IsSettled}
 
 -- what a hart in a try wants, and its access
@@ -69,7 +69,7 @@ barred_access : (s : FlatState) (h : ℕ) (hart : HartState) (access : Access) �
 barred_access s h hart access looked held lost barred = rw (looked, held, lost, barred) refl
 
 pub faults : (s : FlatState) (h : ℕ) (hart : HartState) (arch : ArchState) (inst : Inst) (access : Access) → AllByRecursion IsSettled s.pages → IsTrying arch inst hart → is_lost (want_in hart) hart.reservation ≡ false
-    → access_of (Some (want_of inst arch)) ≡ Some access → is_barred s hart access ≡ true → todo_by s h hart ≡ Some (todo_of_access s hart access)
+    → access_of (Some (want_of inst arch)) ≡ Some access → is_barred s hart access ≡ true → todo_by [] s h hart ≡ todo_of_access s hart access
 faults s h hart arch inst access free t kept e barred =
     let ask : ask_of s h hart ≡ Some (Faulted access)
     = by_fetched s h hart inst hart.fetched t.1 ∙ ap (ask_of_want s h hart) (wanted arch inst hart t.1 t.2) ∙ want_asks s h hart (want_of inst arch) access e

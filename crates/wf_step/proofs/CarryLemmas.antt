@@ -1,11 +1,12 @@
 -- What a hart in a try is to do is what its action says.
-use Rattle.std.proofs.Common.{◌≡◌, ◌<◌, ◌%◌, ℕ, List, [], ◌∷◌, Option, Some, None, true, false, refl, sym, subst, ap, ◌∙◌, arith}
-use Rattle.std.specs.Prelude.{IsSomeAnd, slice_get, slice_index, option_and_then, unwrap_or, ◌==◌, nat_lt}
+use Rattle.std.proofs.Common.{◌≡◌, ◌<◌, ◌%◌, ℕ, List, [], ◌∷◌, Option, Some, None, Bool, true, false, refl, sym, subst, ap, ◌∙◌, arith}
+use Rattle.std.specs.Prelude.{IsSomeAnd, slice_get, slice_index, option_and_then, unwrap_or, ◌==◌}
 use Rattle.std.specs.Option.{option_map}
 use Rattle.std.proofs.lemmas.Bool.Decides.{nat_tests}
 use Rattle.rv_inst.specs.declared.inst.Inst.{Inst}
 use Rattle.rv_inst.specs.declared.inst.Inst.TheVariants.{Ecall}
 use Rattle.rv_inst.specs.declared.want.Want.TheVariants.{Nothing}
+use Rattle.rv_inst.specs.declared.want.Want.TheVariants as want
 use Rattle.rv_inst.specs.Arch.{ArchState}
 use Rattle.rv_inst.specs.Decoding.{inst_of}
 use Rattle.rv_inst.specs.Meanings.{want_of, meaning_of, called, next_pc}
@@ -15,9 +16,11 @@ use Rattle.wf_flat.specs.State.{FlatState, HartState}
 use Rattle.wf_flat.specs.Memory.{word_at}
 use Rattle.rv_inst.specs.declared.want.Want.{Want}
 use Rattle.wf_flat.specs.Refusals.{refused_answer}
-use Rattle.wf_flat.specs.Steps.{OfHart, Ask, Called, Stopped, inst_in, want_in, is_lost, ask_by, ask_of_word, ask_of_want, arch_by, arch_after, call_answer, answered, fetched_with, generation_text}
-use Rattle.wf_flat.specs.Unbuilt.{IsUnbuilt, IsUnbuiltInst, IsUnbuiltWord}
-use Rattle.wf_flat.specs.Calls.{Exactly, todo_by, todo_of, todo_of_call}
+use Rattle.wf_flat.specs.Steps.{OfHart, Ask, Called, Stopped, inst_in, want_in, is_lost, ask_by, ask_of_word, ask_of_want, arch_by, arch_after, call_answer, generation_text}
+use Rattle.wf_flat.specs.Changes.{answered, fetched_with}
+use Rattle.wf_legal.specs.Built.{IsUnbuilt, IsUnbuiltInst, IsUnbuiltWord, is_built_call}
+use Rattle.wf_verdict.specs.declared.work.Todo.TheVariants.{Exactly}
+use Rattle.wf_legal.specs.Calls.{todo_by, todo_of, todo_of_call}
 use Rattle.wf_step.specs.declared.actions.Action.TheVariants.{Run, Trap, Exit, Out, OwnGeneration, Refuse}
 use Rattle.wf_step.specs.declared.actions.Action.TheVariants as actions
 use Rattle.wf_step.specs.declared.stepping.Start.TheVariants.{Word, Fault}
@@ -26,8 +29,12 @@ use Rattle.wf_flat.specs.Memory.{data_in, has_met, with_met}
 use Rattle.wf_flat.specs.Steps.{access_in}
 use Rattle.wf_step.specs.declared.actions.Operand.{Operand}
 use Rattle.wf_step.specs.declared.actions.Write.{Write}
+use Rattle.wf_step.specs.declared.actions.Write.TheVariants as writes
 use Rattle.wf_step.specs.declared.actions.Action.{Action}
-use Rattle.wf_step.specs.Stepping.{IsResting, IsStart, IsAction, IsTrapOf, IsAt, IsInTry, InAccess, IsToDo, IsToMeet, IsPageToSync, IsDone, WillReach, store_want}
+use Rattle.wf_step.specs.Stepping.{IsResting, IsStart, IsAction, IsTrapOf, IsAt, IsInTry, InAccess, IsToDo, IsToMeet, IsPageToSync, IsDone, WillReach, load_want, store_want}
+use Rattle.wf_verdict.specs.declared.requests.Request.{Request}
+use Rattle.wf_verdict.specs.declared.requests.Request.TheVariants.{Exits, PutsByte, TellsGeneration, NoCall}
+use Rattle.wf_verdict.specs.Requests.{requested_by}
 use Rattle.wf_step.proofs.StepLemmas.{no_try_of}
 use Rattle.wf_step.proofs.AccessLemmas.{wanted}
 use Rattle.wf_flat.proofs.ListLemmas.{if_some_more, some_and, and_some}
@@ -50,9 +57,9 @@ run_ready s h word arch next ready action =
     and_some (slice_get s.harts h) _ hart w.1 (w.2.0, rw wants refl, rw wants refl, i.2.1 ∙ sym after)
 
 -- what it asks for
-asked : (s : FlatState) (h : ℕ) (hart : HartState) (word : ℕ) (ask : Ask) → hart.fetched ≡ Some word → ask_of_word s h hart word (inst_of word) ≡ Some ask → todo_by s h hart ≡ todo_of s hart ask
+asked : (s : FlatState) (h : ℕ) (hart : HartState) (word : ℕ) (ask : Ask) → hart.fetched ≡ Some word → ask_of_word s h hart word (inst_of word) ≡ Some ask → todo_by [] s h hart ≡ todo_of [] s hart ask
 asked s h hart word ask f e =
-    ap (λ (o : Option ℕ). option_and_then (λ (a : Ask). todo_of s hart a) (ask_by s h hart o)) f ∙ ap (option_and_then (λ (a : Ask). todo_of s hart a)) e
+    ap (λ (o : Option ℕ). unwrap_or (option_map (λ (a : Ask). todo_of [] s hart a) (ask_by s h hart o)) []) f ∙ ap (λ (o : Option Ask). unwrap_or (option_map (λ (a : Ask). todo_of [] s hart a) o) []) e
 
 stops : (s : FlatState) (h word cause value : ℕ) (arch : ArchState) (hart : HartState) (o : Option Inst) → hart.arch ≡ arch → IsTrapOf arch word o cause value → ask_of_word s h hart word o ≡ Some (Stopped cause value)
 stops s h word cause value arch hart None a action = rw (action.0, action.1) refl
@@ -71,8 +78,8 @@ fault_ready s h pc r ready =
     let w = some_and (slice_get s.harts h) _ ready in
     let none = no_try_of s.harts h w.0 r.no_try w.1 in
     let read : word_at (generation_text s w.0.generation) w.0.arch.pc ≡ None = rw w.2.1 w.2.2 in
-    let todo : todo_by s h w.0 ≡ Some (Exactly (events.Trap 12 w.0.arch.pc) ∷ []) = rw (none, read) refl in
-    and_some (slice_get s.harts h) _ w.0 w.1 (w.2.0, subst (λ (a : ℕ). todo_by s h w.0 ≡ Some (Exactly (events.Trap 12 a) ∷ [])) w.2.1 todo)
+    let todo : todo_by [] s h w.0 ≡ Exactly (events.Trap 12 w.0.arch.pc) ∷ [] = rw (none, read) refl in
+    and_some (slice_get s.harts h) _ w.0 w.1 (w.2.0, subst (λ (a : ℕ). todo_by [] s h w.0 ≡ Exactly (events.Trap 12 a) ∷ []) w.2.1 todo)
 
 -- of a word of its text, of a machine at rest
 pub word_ready : (s : FlatState) (h word : ℕ) (arch : ArchState) → IsResting s → IsStart s h (Word arch word) → OfHart s h (λ hart. IsAt s hart arch.pc word × (hart.arch ≡ arch))
@@ -81,26 +88,85 @@ word_ready s h word arch r ready =
     let none = no_try_of s.harts h w.0 r.no_try w.1 in
     and_some (slice_get s.harts h) _ w.0 w.1 ((w.2.0, none, sym (ap (λ (a : ArchState). a.pc) w.2.1), w.2.2), w.2.1)
 
-calling : (s : FlatState) (h : ℕ) (hart : HartState) (word : ℕ) → hart.fetched ≡ Some word → inst_of word ≡ Some Ecall → todo_by s h hart ≡ todo_of_call (slice_index hart.arch.x 17) (slice_index hart.arch.x 10) hart.arch.pc
-calling s h hart word f e = asked s h hart word Called f (rw e refl)
+-- what a hart requests by its ecall, of the calls that are made
+pub request_exit : (hart : HartState) → slice_index hart.arch.x 17 ≡ 0 → requested_by hart ≡ Exits (slice_index hart.arch.x 10)
+request_exit hart n = rw n refl
 
-todo_exit : (number first pc code : ℕ) → number ≡ 0 → code ≡ first → todo_of_call number first pc ≡ Some (Exactly (events.Exit code) ∷ [])
-todo_exit number first pc code n c = rw (n, c) refl
+pub request_out : (hart : HartState) → slice_index hart.arch.x 17 ≡ 1 → requested_by hart ≡ PutsByte (slice_index hart.arch.x 10 % 256)
+request_out hart n = rw n refl
 
-todo_out : (number first pc byte : ℕ) → number ≡ 1 → byte ≡ first % 256 → todo_of_call number first pc ≡ Some (Exactly (events.Out byte) ∷ Exactly (events.End (next_pc pc)) ∷ [])
-todo_out number first pc byte n b = rw (n, b) refl
+pub request_own : (hart : HartState) → slice_index hart.arch.x 17 ≡ 4 → requested_by hart ≡ TellsGeneration
+request_own hart n = rw n refl
 
-todo_own : (number first pc : ℕ) → number ≡ 4 → todo_of_call number first pc ≡ Some (Exactly (events.End (next_pc pc)) ∷ [])
-todo_own number first pc n = rw n refl
+above : (k number : ℕ) → k < 9 → 8 < number → (number == k) ≡ false
+above k number low h = grind (arith, nat_tests)
 
-by_above : (number : ℕ) → 8 < number → ((number == 0) ≡ false) × ((number == 1) ≡ false) × ((number == 4) ≡ false) × (nat_lt 8 number ≡ true)
-by_above number h = (grind (arith, nat_tests), grind (arith, nat_tests), grind (arith, nat_tests), grind (arith, nat_tests))
+pub request_none : (hart : HartState) → 8 < slice_index hart.arch.x 17 → requested_by hart ≡ NoCall (slice_index hart.arch.x 17)
+request_none hart h =
+    let n : ℕ = slice_index hart.arch.x 17 in
+    let n0 = above 0 n (omega arith) h in
+    let n1 = above 1 n (omega arith) h in
+    let n2 = above 2 n (omega arith) h in
+    let n3 = above 3 n (omega arith) h in
+    let n4 = above 4 n (omega arith) h in
+    let n5 = above 5 n (omega arith) h in
+    let n6 = above 6 n (omega arith) h in
+    let n7 = above 7 n (omega arith) h in
+    let n8 = above 8 n (omega arith) h in
+    rw (n0, n1, n2, n3, n4, n5, n6, n7, n8) refl
 
-todo_refused : (number first pc : ℕ) → 8 < number → todo_of_call number first pc ≡ Some (Exactly (events.Refused (Number number)) ∷ Exactly (events.End (next_pc pc)) ∷ [])
-todo_refused number first pc h = let t = by_above number h in rw (t.0, t.1, t.2, t.3) refl
+-- what is done about it
+requests : (s : FlatState) (h : ℕ) (hart : HartState) (word : ℕ) (request : Request) → hart.fetched ≡ Some word → inst_of word ≡ Some Ecall → requested_by hart ≡ request → todo_by [] s h hart ≡ todo_of_call [] s (next_pc hart.arch.pc) request
+requests s h hart word request f e r = asked s h hart word Called f (rw e refl) ∙ ap (todo_of_call [] s (next_pc hart.arch.pc)) r
 
-not_four : (number : ℕ) → 8 < number → (number == 4) ≡ false
-not_four number h = grind (arith, nat_tests)
+-- the number of a call that is made is a built one
+is_ecall : (hart : HartState) (o : Option Inst) → IsUnbuiltInst hart o → (o ≡ Some Ecall) × (is_built_call (slice_index hart.arch.x 17) ≡ false)
+is_ecall hart None u = absurd u
+is_ecall hart (Some Ecall) u = (refl, u)
+is_ecall hart (Some inst) u = absurd u
+
+load_no_call : (operand : Operand) (reserving : Bool) → load_want operand reserving ≡ want.Call → ⊥
+load_no_call operand true e = cc
+load_no_call operand false e = cc
+
+store_no_call : (operand : Operand) (write : Write) → store_want operand write ≡ want.Call → ⊥
+store_no_call operand (writes.Put value) e = cc
+store_no_call operand (writes.PutIf value) e = cc
+store_no_call operand (writes.Swap op value) e = cc
+
+is_built : (arch : ArchState) (word : ℕ) (action : Action) → inst_of word ≡ Some Ecall → IsAction arch word action → is_built_call (slice_index arch.x 17) ≡ true
+is_built arch word (Run next) e is =
+    let i = some_and (inst_of word) _ is in
+    let inst : i.0 ≡ Ecall = cc in
+    let calls : want_of i.0 arch ≡ want.Call = rw inst refl in
+    absurd (cc)
+is_built arch word (actions.Load operand reserving) e is =
+    let i = is.0 in
+    let inst : operand.inst ≡ Ecall = cc in
+    absurd (load_no_call operand reserving (sym is.1.0 ∙ ap (λ (x : Inst). want_of x arch) inst))
+is_built arch word (actions.Store operand write) e is =
+    let i = is.0 in
+    let inst : operand.inst ≡ Ecall = cc in
+    absurd (store_no_call operand write (sym is.1.0 ∙ ap (λ (x : Inst). want_of x arch) inst))
+is_built arch word (Trap cause value) e is =
+    let traps : want.Call ≡ want.Trap cause value = subst (λ (o : Option Inst). IsTrapOf arch word o cause value) e is in
+    absurd (cc)
+is_built arch word (Exit code) e is = rw is.1 refl
+is_built arch word (Out byte) e is = rw is.1 refl
+is_built arch word OwnGeneration e is = rw is.1 refl
+is_built arch word (Refuse number) e is = let more : 8 < slice_index arch.x 17 = rw (← is.1) is.2 in grind (arith, nat_tests)
+
+-- so what a hart that has an action is to do is built
+pub stands_at_built : (s : FlatState) (h word : ℕ) (arch : ArchState) (action : Action) → OfHart s h (λ hart. IsAt s hart arch.pc word × (hart.arch ≡ arch)) → IsAction arch word action → IsUnbuilt s h arch.pc → ⊥
+stands_at_built s h word arch action ready is unbuilt =
+    let w = some_and (slice_get s.harts h) _ ready in
+    let v = some_and (slice_get s.harts h) _ unbuilt in
+    let same : v.0 ≡ w.0 = cc in
+    let at : IsUnbuiltWord w.0 (word_at (generation_text s w.0.generation) arch.pc) = subst (λ (hart : HartState). IsUnbuiltWord hart (word_at (generation_text s hart.generation) arch.pc)) same v.2.3 in
+    let u = is_ecall w.0 (inst_of word) (subst (IsUnbuiltWord w.0) w.2.0.3 at) in
+    let not_built : is_built_call (slice_index arch.x 17) ≡ false = subst (λ (x : ArchState). is_built_call (slice_index x.x 17) ≡ false) w.2.1 u.1 in
+    let built = is_built arch word action u.0 is in
+    cc
 
 -- the registers behind a call
 after_call : (hart : HartState) (word answer : ℕ) → hart.fetched ≡ Some word → inst_of word ≡ Some Ecall → call_answer hart ≡ answer → called hart.arch answer ≡ arch_after hart
@@ -113,7 +179,8 @@ exit_ready s h word code arch ready action =
     let w = some_and (slice_get s.harts h) _ ready in
     let number : slice_index w.0.arch.x 17 ≡ 0 = rw w.2.3 action.1 in
     let first : code ≡ slice_index w.0.arch.x 10 = rw w.2.3 action.2 in
-    and_some (slice_get s.harts h) _ w.0 w.1 (w.2.0, calling s h w.0 word w.2.1 action.0 ∙ todo_exit _ _ _ code number first)
+    let request : requested_by w.0 ≡ Exits code = request_exit w.0 number ∙ ap Exits (sym first) in
+    and_some (slice_get s.harts h) _ w.0 w.1 (w.2.0, requests s h w.0 word (Exits code) w.2.1 action.0 request)
 
 pub out_ready : (s : FlatState) (h word byte : ℕ) (arch next : ArchState) → OfHart s h (IsInTry arch word) → IsAction arch word (Out byte) → next ≡ called arch 0
     → OfHart s h (λ hart. IsToDo s h hart (Exactly (events.Out byte) ∷ Exactly (events.End next.pc) ∷ []) × (next ≡ arch_after (answered 0 hart)))
@@ -122,10 +189,11 @@ out_ready s h word byte arch next ready action n =
     let number : slice_index w.0.arch.x 17 ≡ 1 = rw w.2.3 action.1 in
     let first : byte ≡ slice_index w.0.arch.x 10 % 256 = rw w.2.3 action.2 in
     let pc : next_pc w.0.arch.pc ≡ next.pc = ap (λ (a : ArchState). next_pc a.pc) w.2.3 ∙ sym (ap (λ (a : ArchState). a.pc) n) in
-    let todo = calling s h w.0 word w.2.1 action.0 ∙ todo_out _ _ w.0.arch.pc byte number first in
+    let request : requested_by w.0 ≡ PutsByte byte = request_out w.0 number ∙ ap PutsByte (sym first) in
+    let todo : todo_by [] s h w.0 ≡ Exactly (events.Out byte) ∷ Exactly (events.End (next_pc w.0.arch.pc)) ∷ [] = requests s h w.0 word (PutsByte byte) w.2.1 action.0 request in
     let answer : call_answer (answered 0 w.0) ≡ 0 = rw number refl in
     let after : called w.0.arch 0 ≡ arch_after (answered 0 w.0) = after_call (answered 0 w.0) word 0 w.2.1 action.0 answer in
-    and_some (slice_get s.harts h) _ w.0 w.1 ((w.2.0, subst (λ (pc : ℕ). todo_by s h w.0 ≡ Some (Exactly (events.Out byte) ∷ Exactly (events.End pc) ∷ [])) pc todo), n ∙ sym (ap (λ (a : ArchState). called a 0) w.2.3) ∙ after)
+    and_some (slice_get s.harts h) _ w.0 w.1 ((w.2.0, subst (λ (pc : ℕ). todo_by [] s h w.0 ≡ Exactly (events.Out byte) ∷ Exactly (events.End pc) ∷ []) pc todo), n ∙ sym (ap (λ (a : ArchState). called a 0) w.2.3) ∙ after)
 
 pub own_ready : (s : FlatState) (h word own : ℕ) (arch next : ArchState) → OfHart s h (IsInTry arch word) → IsAction arch word OwnGeneration → OfHart s h (λ hart. own ≡ hart.generation) → next ≡ called arch own
     → OfHart s h (λ hart. IsToDo s h hart (Exactly (events.End next.pc) ∷ []) × (next ≡ arch_after hart))
@@ -136,10 +204,10 @@ own_ready s h word own arch next ready action owned n =
     let is_own : own ≡ w.0.generation = v.2 ∙ ap (λ (x : HartState). x.generation) same in
     let number : slice_index w.0.arch.x 17 ≡ 4 = rw w.2.3 action.1 in
     let pc : next_pc w.0.arch.pc ≡ next.pc = ap (λ (a : ArchState). next_pc a.pc) w.2.3 ∙ sym (ap (λ (a : ArchState). a.pc) n) in
-    let todo = calling s h w.0 word w.2.1 action.0 ∙ todo_own _ (slice_index w.0.arch.x 10) w.0.arch.pc number in
+    let todo : todo_by [] s h w.0 ≡ Exactly (events.End (next_pc w.0.arch.pc)) ∷ [] = requests s h w.0 word TellsGeneration w.2.1 action.0 (request_own w.0 number) in
     let answer : call_answer w.0 ≡ own = rw number (sym is_own) in
     let after : called w.0.arch own ≡ arch_after w.0 = after_call w.0 word own w.2.1 action.0 answer in
-    and_some (slice_get s.harts h) _ w.0 w.1 ((w.2.0, subst (λ (pc : ℕ). todo_by s h w.0 ≡ Some (Exactly (events.End pc) ∷ [])) pc todo), n ∙ sym (ap (λ (a : ArchState). called a own) w.2.3) ∙ after)
+    and_some (slice_get s.harts h) _ w.0 w.1 ((w.2.0, subst (λ (pc : ℕ). todo_by [] s h w.0 ≡ Exactly (events.End pc) ∷ []) pc todo), n ∙ sym (ap (λ (a : ArchState). called a own) w.2.3) ∙ after)
 
 pub refuse_ready : (s : FlatState) (h word number : ℕ) (arch next : ArchState) → OfHart s h (IsInTry arch word) → IsAction arch word (Refuse number) → next ≡ called arch (refused_answer (Number number))
     → OfHart s h (λ hart. IsToDo s h hart (Exactly (events.Refused (Number number)) ∷ Exactly (events.End next.pc) ∷ []) × (next ≡ arch_after (answered (refused_answer (Number number)) hart)))
@@ -147,15 +215,14 @@ refuse_ready s h word number arch next ready action n =
     let w = some_and (slice_get s.harts h) _ ready in
     let answer : ℕ = refused_answer (Number number) in
     let is : number ≡ slice_index w.0.arch.x 17 = rw w.2.3 action.1 in
-    let above : 8 < slice_index w.0.arch.x 17 = rw (← is) action.2 in
+    let more : 8 < slice_index w.0.arch.x 17 = rw (← is) action.2 in
     let pc : next_pc w.0.arch.pc ≡ next.pc = ap (λ (a : ArchState). next_pc a.pc) w.2.3 ∙ sym (ap (λ (a : ArchState). a.pc) n) in
-    let todo : todo_by s h w.0 ≡ Some (Exactly (events.Refused (Number number)) ∷ Exactly (events.End (next_pc w.0.arch.pc)) ∷ [])
-    = calling s h w.0 word w.2.1 action.0 ∙ todo_refused (slice_index w.0.arch.x 17) (slice_index w.0.arch.x 10) w.0.arch.pc above
-    ∙ ap (λ (k : ℕ). Some (Exactly (events.Refused (Number k)) ∷ Exactly (events.End (next_pc w.0.arch.pc)) ∷ [])) (sym is) in
-    let other : (slice_index w.0.arch.x 17 == 4) ≡ false = not_four (slice_index w.0.arch.x 17) above in
+    let request : requested_by w.0 ≡ NoCall number = request_none w.0 more ∙ ap NoCall (sym is) in
+    let todo : todo_by [] s h w.0 ≡ Exactly (events.Refused (Number number)) ∷ Exactly (events.End (next_pc w.0.arch.pc)) ∷ [] = requests s h w.0 word (NoCall number) w.2.1 action.0 request in
+    let other : (slice_index w.0.arch.x 17 == 4) ≡ false = above 4 (slice_index w.0.arch.x 17) (omega arith) more in
     let answers : call_answer (answered answer w.0) ≡ answer = rw other refl in
     let after : called w.0.arch answer ≡ arch_after (answered answer w.0) = after_call (answered answer w.0) word answer w.2.1 action.0 answers in
-    and_some (slice_get s.harts h) _ w.0 w.1 ((w.2.0, subst (λ (pc : ℕ). todo_by s h w.0 ≡ Some (Exactly (events.Refused (Number number)) ∷ Exactly (events.End pc) ∷ [])) pc todo), n ∙ sym (ap (λ (a : ArchState). called a answer) w.2.3) ∙ after)
+    and_some (slice_get s.harts h) _ w.0 w.1 ((w.2.0, subst (λ (pc : ℕ). todo_by [] s h w.0 ≡ Exactly (events.Refused (Number number)) ∷ Exactly (events.End pc) ∷ []) pc todo), n ∙ sym (ap (λ (a : ArchState). called a answer) w.2.3) ∙ after)
 
 -- a hart with these registers is at a word that is not built
 pub meets_unbuilt_word : (s : FlatState) (h word : ℕ) (arch : ArchState) → OfHart s h (λ hart. IsAt s hart arch.pc word × (hart.arch ≡ arch)) → ((hart : HartState) → hart.arch ≡ arch → IsUnbuiltInst hart (inst_of word)) → IsUnbuilt s h arch.pc

@@ -1,5 +1,7 @@
 pub mod ActionLemmas
+pub mod BuiltLemmas
 pub mod StepLemmas
+pub mod CallLemmas
 pub mod AccessLemmas
 pub mod MakingLemmas
 pub mod ServingLemmas

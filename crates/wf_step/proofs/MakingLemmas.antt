@@ -1,5 +1,5 @@
--- What the entries of accesses make of a machine of one hart.
-use Rattle.std.proofs.Common.{◌≡◌, ◌≢◌, ◌++◌, ℕ, List, [], ◌∷◌, Option, Some, None, Bool, true, false, length, refl, sym, subst, ap, ◌∙◌, inl, inr, arith}
+-- What the entries of accesses make, where no other hart is in a try.
+use Rattle.std.proofs.Common.{◌≡◌, ◌≢◌, ◌++◌, ℕ, List, [], ◌∷◌, Option, Some, None, Bool, true, false, refl, sym, subst, ap, ◌∙◌, inl, inr, arith}
 use Rattle.std.specs.Prelude.{slice_get, option_and_then, unwrap_or, if◌then◌else◌, ◌==◌, ◌||◌, not, is_some, nat_lt}
 use Rattle.std.specs.Option.{option_map}
 use Rattle.std.specs.List.{AllByRecursion}
@@ -22,36 +22,38 @@ use Rattle.wf_flat.specs.Memory.{data_in, has_met, with_met, met_key}
 use Rattle.wf_flat.specs.Ordered.{IsOrdered}
 use Rattle.wf_flat.specs.Serving.{held_by}
 use Rattle.wf_flat.specs.Accesses.{Access, access_of, holds, holds_page}
-use Rattle.wf_flat.specs.Steps.{OfHart, MayLook, MayTake, MayPut, MaySwap, MayMiss, want_in, access_in, inst_in, is_conditional, has_written, has_ended, is_done, arch_by, arch_after, looked_with, written_by, swapped_by, missed, taken_by, put_with, flat_after, change_hart, change_page}
+use Rattle.wf_flat.specs.Steps.{OfHart, MayLook, MayTake, MayPut, MaySwap, MayMiss, want_in, access_in, inst_in, is_conditional, has_written, has_ended, is_done, arch_by, arch_after}
+use Rattle.wf_legal.specs.Events.{flat_after}
+use Rattle.wf_flat.specs.Changes.{looked_with, written_by, swapped_by, missed, taken_by, put_with, change_hart, change_page}
 use Rattle.wf_flat.proofs.HartLemmas.{changed_get}
-use Rattle.wf_step.specs.Stepping.{IsActing, IsSame, IsDone, IsTrying, InAccess, Begins}
-use Rattle.wf_flat.proofs.ListLemmas.{some_and, and_some, length_changed}
+use Rattle.wf_step.specs.Stepping.{IsActing, IsSame, IsDone, IsTrying, InAccess, HasBegun}
+use Rattle.wf_flat.proofs.ListLemmas.{some_and, and_some}
 use Rattle.wf_step.proofs.StepLemmas.{entry, left, but_changed, IsOwned, acts_on, open_made}
 use Rattle.wf_step.proofs.AccessLemmas.{wanted}
 
 -- a look, a take, a put, a swap and a miss are made
-pub look_made : (s mid new : FlatState) (before now later : List Entry) (h va width value : ℕ) → Begins s before mid now h → mid.inside ≡ None
-    → OfHart mid h (λ hart. (hart.life ≡ Running) × MayLook mid h hart va width value) → new ≡ flat_after mid (Hart h) (Look va width value) → later ≡ now ++ entry h (Look va width value) ∷ [] → Begins s before new later h
-look_made s mid new before now later h va width value b inside may n appended = open_made s mid new before now later h (Look va width value) b inside may refl (rw inside refl) n appended
+pub look_made : (s mid new : FlatState) (before now later : List Entry) (h va width value : ℕ) → HasBegun s before mid now h → mid.inside ≡ None
+    → OfHart mid h (λ hart. (hart.life ≡ Running) × MayLook mid h hart va width value) → new ≡ flat_after [] mid (Hart h) (Look va width value) → later ≡ now ++ entry h (Look va width value) ∷ [] → HasBegun s before new later h
+look_made s mid new before now later h va width value b inside may n appended = open_made s mid new before now later h (Look va width value) b inside may refl tt (rw inside refl) n appended
 
-pub take_made : (s mid new : FlatState) (before now later : List Entry) (h page : ℕ) → Begins s before mid now h → mid.inside ≡ None
-    → OfHart mid h (λ hart. (hart.life ≡ Running) × MayTake mid hart (access_in hart) page) → new ≡ flat_after mid (Hart h) (Take page) → later ≡ now ++ entry h (Take page) ∷ [] → Begins s before new later h
-take_made s mid new before now later h page b inside may n appended = open_made s mid new before now later h (Take page) b inside may refl (rw inside refl) n appended
+pub take_made : (s mid new : FlatState) (before now later : List Entry) (h page : ℕ) → HasBegun s before mid now h → mid.inside ≡ None
+    → OfHart mid h (λ hart. (hart.life ≡ Running) × MayTake mid hart (access_in hart) page) → new ≡ flat_after [] mid (Hart h) (Take page) → later ≡ now ++ entry h (Take page) ∷ [] → HasBegun s before new later h
+take_made s mid new before now later h page b inside may n appended = open_made s mid new before now later h (Take page) b inside may refl tt (rw inside refl) n appended
 
-pub put_made : (s mid new : FlatState) (before now later : List Entry) (h va width value : ℕ) → Begins s before mid now h → mid.inside ≡ None
-    → OfHart mid h (λ hart. (hart.life ≡ Running) × MayPut mid h hart va width value) → new ≡ flat_after mid (Hart h) (Put va width value) → later ≡ now ++ entry h (Put va width value) ∷ [] → Begins s before new later h
-put_made s mid new before now later h va width value b inside may n appended = open_made s mid new before now later h (Put va width value) b inside may refl (rw inside refl) n appended
+pub put_made : (s mid new : FlatState) (before now later : List Entry) (h va width value : ℕ) → HasBegun s before mid now h → mid.inside ≡ None
+    → OfHart mid h (λ hart. (hart.life ≡ Running) × MayPut mid h hart va width value) → new ≡ flat_after [] mid (Hart h) (Put va width value) → later ≡ now ++ entry h (Put va width value) ∷ [] → HasBegun s before new later h
+put_made s mid new before now later h va width value b inside may n appended = open_made s mid new before now later h (Put va width value) b inside may refl tt (rw inside refl) n appended
 
-pub swap_made : (s mid new : FlatState) (before now later : List Entry) (h va width old value : ℕ) → Begins s before mid now h → mid.inside ≡ None
-    → OfHart mid h (λ hart. (hart.life ≡ Running) × MaySwap mid h hart va width old value) → new ≡ flat_after mid (Hart h) (Swap va width old value) → later ≡ now ++ entry h (Swap va width old value) ∷ [] → Begins s before new later h
-swap_made s mid new before now later h va width old value b inside may n appended = open_made s mid new before now later h (Swap va width old value) b inside may refl (rw inside refl) n appended
+pub swap_made : (s mid new : FlatState) (before now later : List Entry) (h va width old value : ℕ) → HasBegun s before mid now h → mid.inside ≡ None
+    → OfHart mid h (λ hart. (hart.life ≡ Running) × MaySwap mid h hart va width old value) → new ≡ flat_after [] mid (Hart h) (Swap va width old value) → later ≡ now ++ entry h (Swap va width old value) ∷ [] → HasBegun s before new later h
+swap_made s mid new before now later h va width old value b inside may n appended = open_made s mid new before now later h (Swap va width old value) b inside may refl tt (rw inside refl) n appended
 
-pub miss_made : (s mid new : FlatState) (before now later : List Entry) (h va : ℕ) → Begins s before mid now h → mid.inside ≡ None
-    → OfHart mid h (λ hart. (hart.life ≡ Running) × MayMiss mid h hart (access_in hart) va) → new ≡ flat_after mid (Hart h) (Miss va) → later ≡ now ++ entry h (Miss va) ∷ [] → Begins s before new later h
-miss_made s mid new before now later h va b inside may n appended = open_made s mid new before now later h (Miss va) b inside may refl (rw inside refl) n appended
+pub miss_made : (s mid new : FlatState) (before now later : List Entry) (h va : ℕ) → HasBegun s before mid now h → mid.inside ≡ None
+    → OfHart mid h (λ hart. (hart.life ≡ Running) × MayMiss mid h hart (access_in hart) va) → new ≡ flat_after [] mid (Hart h) (Miss va) → later ≡ now ++ entry h (Miss va) ∷ [] → HasBegun s before new later h
+miss_made s mid new before now later h va b inside may n appended = open_made s mid new before now later h (Miss va) b inside may refl tt (rw inside refl) n appended
 
 -- the hart goes on in its try
-pub look_acts : (s new : FlatState) (h va width value : ℕ) (held : Option ℕ) → IsActing s h held → new ≡ flat_after s (Hart h) (Look va width value) → IsActing new h held
+pub look_acts : (s new : FlatState) (h va width value : ℕ) (held : Option ℕ) → IsActing s h held → new ≡ flat_after [] s (Hart h) (Look va width value) → IsActing new h held
 look_acts s new h va width value held t n =
     acts_on s new h held (looked_with s va width value) t (ap (λ (f : FlatState). f.inside) n ∙ t.no_one) (ap (λ (f : FlatState). f.harts) n) (ap (λ (f : FlatState). f.pages) n) (ap (λ (f : FlatState). f.met) n)
 
@@ -66,12 +68,12 @@ owned_taken h number (page ∷ pages) all = (by_test (page.number == number) ref
     by_test true t = (all.0.0, inr (ap Some (same page.number number t)))
     by_test false t = (all.0.0, elim all.0.1 [ inl e ↦ inl e | inr e ↦ absurd (cc) ])
 
-pub take_acts : (s new : FlatState) (h page : ℕ) → IsActing s h None → new ≡ flat_after s (Hart h) (Take page) → new.harts ≡ s.harts → IsOrdered new → IsActing new h (Some page)
+pub take_acts : (s new : FlatState) (h page : ℕ) → IsActing s h None → new ≡ flat_after [] s (Hart h) (Take page) → new.harts ≡ s.harts → IsOrdered new → IsActing new h (Some page)
 take_acts s new h page t n harts ordered =
     record {
       no_one = ap (λ (f : FlatState). f.inside) n ∙ t.no_one;
       others = rw harts t.others;
-      single = record { alone = ap length harts ∙ t.single.alone; ordered = ordered };
+      ordered = ordered;
       pages = subst (AllByRecursion (IsOwned (Some page))) (sym (ap (λ (f : FlatState). f.pages) n)) (owned_taken h page s.pages t.pages);
     }
 
@@ -89,24 +91,24 @@ wrote_acts s new h number at width value f held t n ordered =
     record {
       no_one = ap (λ (f : FlatState). f.inside) n ∙ t.no_one;
       others = rw harts (but_changed (λ (hart : HartState). hart.fetched ≡ None) f h s.harts t.others);
-      single = record { alone = ap length harts ∙ length_changed f s.harts h ∙ t.single.alone; ordered = ordered };
+      ordered = ordered;
       pages = subst (AllByRecursion (IsOwned held)) (sym (ap (λ (f : FlatState). f.pages) n)) (owned_put held number at width value s.pages t.pages);
     }
 
-pub miss_acts : (s new : FlatState) (h va : ℕ) (held : Option ℕ) → IsActing s h held → new ≡ flat_after s (Hart h) (Miss va) → IsActing new h held
+pub miss_acts : (s new : FlatState) (h va : ℕ) (held : Option ℕ) → IsActing s h held → new ≡ flat_after [] s (Hart h) (Miss va) → IsActing new h held
 miss_acts s new h va held t n =
     acts_on s new h held missed t (ap (λ (f : FlatState). f.inside) n ∙ t.no_one) (ap (λ (f : FlatState). f.harts) n) (ap (λ (f : FlatState). f.pages) n) (ap (λ (f : FlatState). f.met) n)
 
-pub sync_acts : (s new : FlatState) (h generation page : ℕ) → IsActing s h None → new ≡ flat_after (flat_after s (Hart h) Enter) (Hart h) (Sync generation page) → new.harts ≡ s.harts → IsOrdered new → IsActing new h None
+pub sync_acts : (s new : FlatState) (h generation page : ℕ) → IsActing s h None → new ≡ flat_after [] (flat_after [] s (Hart h) Enter) (Hart h) (Sync generation page) → new.harts ≡ s.harts → IsOrdered new → IsActing new h None
 sync_acts s new h generation page t n harts ordered =
     record {
       no_one = ap (λ (f : FlatState). f.inside) n ∙ left h;
       others = rw harts t.others;
-      single = record { alone = ap length harts ∙ t.single.alone; ordered = ordered };
+      ordered = ordered;
       pages = subst (AllByRecursion (IsOwned None)) (sym (ap (λ (f : FlatState). f.pages) n)) t.pages;
     }
 
-pub sync_same : (s new : FlatState) (h generation page : ℕ) → new ≡ flat_after (flat_after s (Hart h) Enter) (Hart h) (Sync generation page) → new.harts ≡ s.harts → IsSame s new
+pub sync_same : (s new : FlatState) (h generation page : ℕ) → new ≡ flat_after [] (flat_after [] s (Hart h) Enter) (Hart h) (Sync generation page) → new.harts ≡ s.harts → IsSame s new
 sync_same s new h generation page n harts = record { pages = ap (λ (f : FlatState). f.pages) n; gens = ap (λ (f : FlatState). f.gens) n; limits = ap (λ (f : FlatState). f.limits) n; harts = harts }
 
 -- a page that is met now has been met

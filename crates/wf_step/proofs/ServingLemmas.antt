@@ -17,9 +17,11 @@ use Rattle.wf_flat.specs.State.{FlatState, HartState, PageState}
 use Rattle.wf_flat.specs.Memory.{page_in, data_in, number_in, has_met, with_met}
 use Rattle.wf_flat.specs.Serving.{held_by}
 use Rattle.wf_flat.specs.Accesses.{Access, access_of, holds, holds_page, is_open, is_reached, stands, generation_text, accessed_text, accessed_data, has_right}
-use Rattle.wf_flat.specs.Steps.{OfHart, MayLook, MayTake, MayPut, MaySwap, MayMiss, Reads, access_in, want_in, reserves, is_conditional, is_lost, misses, takes_for, put_of, swap_of, taken_by}
+use Rattle.wf_flat.specs.Steps.{OfHart, MayLook, MayTake, MayPut, MaySwap, MayMiss, Reads, access_in, want_in, is_conditional, is_lost, misses, takes_for, put_of, swap_of}
+use Rattle.wf_flat.specs.Changes.{reserves, taken_by}
 use Rattle.wf_flat.specs.declared.state.Stage.TheVariants.{Here}
-use Rattle.wf_flat.specs.Calls.{Exactly, todo_of_page}
+use Rattle.wf_verdict.specs.declared.work.Todo.TheVariants.{Exactly}
+use Rattle.wf_legal.specs.Calls.{todo_of_page}
 use Rattle.wf_step.specs.declared.finding.Found.{Found}
 use Rattle.wf_step.specs.declared.actions.Operand.{Operand}
 use Rattle.wf_step.specs.declared.actions.Write.{Write}
@@ -125,7 +127,7 @@ missing s h arch inst access free ready kept e text none =
     (λ (hart : HartState). IsToDo s h hart (Exactly (events.Trap (if access.write then 15 else 13) access.va) ∷ []))
     (λ hart is t. (
       t.0.0.0,
-      faults s h hart arch inst access free t.0.0 t.0.1 e (barred_by s hart access t.1 (ap (is_open s hart access) none)) ∙ ap Some (todo_without_text s hart access t.1 ∙ rw none refl),
+      faults s h hart arch inst access free t.0.0 t.0.1 e (barred_by s hart access t.1 (ap (is_open s hart access) none)) ∙ todo_without_text s hart access t.1 ∙ rw none refl,
     )) (both (slice_get s.harts h) _ _ (both (slice_get s.harts h) _ _ ready kept) text)
 
 -- to text, which is not written
@@ -136,7 +138,7 @@ in_text s h arch inst access free ready kept e text writes =
     (λ (hart : HartState). IsToDo s h hart (Exactly (events.Trap 15 access.va) ∷ []))
     (λ hart is t. (
       t.0.0.0,
-      faults s h hart arch inst access free t.0.0 t.0.1 e (text_bars s hart access t.1 writes) ∙ ap Some (todo_in_text s hart access t.1 ∙ ap (λ (b : Bool). Exactly (events.Trap (if b then 15 else 13) access.va) ∷ []) writes),
+      faults s h hart arch inst access free t.0.0 t.0.1 e (text_bars s hart access t.1 writes) ∙ todo_in_text s hart access t.1 ∙ ap (λ (b : Bool). Exactly (events.Trap (if b then 15 else 13) access.va) ∷ []) writes,
     )) (both (slice_get s.harts h) _ _ (both (slice_get s.harts h) _ _ ready kept) text)
 
 -- to a page that may not be written
@@ -157,7 +159,7 @@ denied s h arch inst access found free ready kept e text found_is writes denies 
     (λ hart is t. (
       t.0.0.0,
       faults s h hart arch inst access free t.0.0 t.0.1 e (barred_by s hart access t.1 (rw d.1 (rw (here.0, right) (and_false true (has_met s.met hart.generation d.0.number)))))
-          ∙ ap Some (todo_without_text s hart access t.1 ∙ rw d.1 (rw (here.0, right, writes) refl)),
+          ∙ todo_without_text s hart access t.1 ∙ rw d.1 (rw (here.0, right, writes) refl),
     )) (both (slice_get s.harts h) _ _ (both (slice_get s.harts h) _ _ ready kept) text)
 
 todo_sync : (s : FlatState) (hart : HartState) (access : Access) (page : PageState) → accessed_data s access ≡ Some page → page.stage ≡ Here → has_right access page ≡ true → has_met s.met hart.generation page.number ≡ false
@@ -185,7 +187,7 @@ meets s h arch inst access found (Some met) free ready kept e text found_is righ
       (
         t.0.0.0.0,
         faults s h hart arch inst access free t.0.0.0 t.0.0.1 e (barred_by s hart access t.0.1 (rw d.1 (rw (here.0, t.1.0) refl)))
-            ∙ ap Some (todo_without_text s hart access t.0.1 ∙ todo_sync s hart access d.0 d.1 here.0 may t.1.0),
+            ∙ todo_without_text s hart access t.0.1 ∙ todo_sync s hart access d.0 d.1 here.0 may t.1.0,
       ),
       t.1.1,
     )) (both (slice_get s.harts h) _ _ (both (slice_get s.harts h) _ _ (both (slice_get s.harts h) _ _ ready kept) text) u) in

@@ -1,5 +1,5 @@
--- What the machine of one hart keeps, and how far a unit of it has come.
-use Rattle.std.specs.Prelude.{◌≡◌, ◌≢◌, ◌⊎◌, ◌<◌, ◌++◌, ◌%◌, ℕ, zero, suc, List, [], ◌∷◌, Bool, true, false, not, if◌then◌else◌, Option, Some, None, IfSome, IsSomeAnd, length, map, nat_lt, slice_index}
+-- What the machine keeps around a unit of a hart, and how far a unit has come.
+use Rattle.std.specs.Prelude.{◌≡◌, ◌≢◌, ◌⊎◌, ◌<◌, ◌++◌, ◌%◌, ℕ, List, [], ◌∷◌, Bool, true, false, not, if◌then◌else◌, Option, Some, None, IfSome, IsSomeAnd, map, nat_lt, slice_index}
 use Rattle.std.specs.List.{AllByRecursion}
 use Rattle.rv_inst.specs.declared.causes.TheConstants.{ILLEGAL_INSTRUCTION}
 use Rattle.rv_inst.specs.declared.inst.Inst.{Inst}
@@ -18,14 +18,17 @@ use Rattle.wf_outside.specs.Lists.{IsRising}
 use Rattle.wf_outside.specs.Pages.{page_of}
 use Rattle.wf_flat.specs.Memory.{page_in, data_in, word_at, has_met, with_met, met_key}
 use Rattle.wf_flat.specs.Ordered.{IsOrdered}
-use Rattle.wf_flat.specs.Serving.{held_by, IsPlace}
+use Rattle.wf_flat.specs.Serving.{held_by, IsAlone, IsPlace}
 use Rattle.wf_flat.specs.Accesses.{Access}
 use Rattle.wf_flat.specs.Steps.{OfHart, generation_text, inst_in, want_in, access_in, is_lost, takes_for, is_done, arch_after}
 use Rattle.wf_flat.specs.declared.event.Event.TheVariants.{Sync}
-use Rattle.wf_flat.specs.Calls.{Todo, Exactly, todo_by}
+use Rattle.wf_verdict.specs.declared.work.Todo.{Todo}
+use Rattle.wf_verdict.specs.declared.work.Todo.TheVariants.{Exactly}
+use Rattle.wf_legal.specs.Calls.{todo_by}
 use Rattle.wf_flat.specs.declared.event.Entry.{Entry}
 use Rattle.wf_flat.specs.State.{FlatState, HartState, PageState}
-use Rattle.wf_flat.specs.Legal.{IsLegal, end_of, at_rest}
+use Rattle.wf_legal.specs.Legal.{IsLegal, end_of, at_rest}
+use Rattle.wf_legal.specs.Built.{IsBuilt}
 use Rattle.wf_flat.specs.Follows.{ends_unit}
 use Rattle.wf_step.specs.declared.finding.Found.{Found}
 use Rattle.wf_step.specs.declared.stepping.Start.{Start}
@@ -40,30 +43,19 @@ use Rattle.wf_step.specs.declared.actions.Action.TheVariants.{Run, Load, Store, 
 abbrev pub IsSettled : PageState → Type 0
 IsSettled page = (page.stage ≡ Here) × (page.holder ≡ None)
 
--- one hart, and its pages and what was met in their order
-pub record IsSingle (s : FlatState) : Type 0 where
-  pub alone : length s.harts ≡ 1
-  pub ordered : IsOrdered s
-
 -- nobody is inside, no hart is in a try, and no page is held or leaving
 pub record IsResting (s : FlatState) : Type 0 where
   pub no_one : s.inside ≡ None
   pub no_try : AllByRecursion (λ hart. hart.fetched ≡ None) s.harts
-  pub single : IsSingle s
+  pub ordered : IsOrdered s
   pub free : AllByRecursion IsSettled s.pages
-
--- what holds of all but the one at a place
-abbrev pub AllBut : {A : Type 0} → (A → Type 0) → ℕ → List A → Type 0
-AllBut P at [] = Unit {0}
-AllBut P zero (x ∷ xs) = AllByRecursion P xs
-AllBut P (suc at) (x ∷ xs) = P x × AllBut P at xs
 
 -- nobody is inside, no hart but this one is in a try, no page is leaving, and none is held but this
 -- one, if any
 pub record IsActing (s : FlatState) (h : ℕ) (held : Option ℕ) : Type 0 where
   pub no_one : s.inside ≡ None
-  pub others : AllBut (λ hart. hart.fetched ≡ None) h s.harts
-  pub single : IsSingle s
+  pub others : IsAlone s h
+  pub ordered : IsOrdered s
   pub pages : AllByRecursion
       (λ page. (page.stage ≡ Here) × ((page.holder ≡ None) ⊎ (held ≡ Some page.number))) s.pages
 
@@ -148,7 +140,7 @@ IsNear s h va page =
 
 -- a hart that runs asks for what takes these events
 abbrev pub IsToDo : FlatState → ℕ → HartState → List Todo → Type 0
-IsToDo s h hart todo = (hart.life ≡ Running) × (todo_by s h hart ≡ Some todo)
+IsToDo s h hart todo = (hart.life ≡ Running) × (todo_by [] s h hart ≡ todo)
 
 -- a hart's generation has met a page; or else it is to meet it, and this is what will be met then
 abbrev pub IsMeeting : FlatState → ℕ → ℕ → Option (List (ℕ × ℕ)) → Type 0
@@ -245,20 +237,23 @@ abbrev pub IsOpen : ℕ → List Entry → Type 0
 IsOpen h entries =
     AllByRecursion (λ entry. (entry.actor ≡ Hart h) × (ends_unit entry.event ≡ false)) entries
 
--- a unit of a hart has begun behind the entries so far, from this state, and has come to this one
-pub record Begins (old : FlatState) (before : List Entry) (new : FlatState) (now : List Entry)
+-- A unit of a hart has begun behind the entries so far, from this state, and has come to this one.
+-- What it made is legal and built.
+pub record HasBegun (old : FlatState) (before : List Entry) (new : FlatState) (now : List Entry)
     (h : ℕ) : Type 0 where
   pub made : List Entry
   pub appended : now ≡ before ++ made
-  pub legal : IsLegal (at_rest old) made
-  pub reached : at_rest new ≡ end_of (at_rest old) made
+  pub legal : IsLegal (at_rest [] old) made
+  pub built : IsBuilt (at_rest [] old) made
+  pub reached : at_rest [] new ≡ end_of (at_rest [] old) made
   pub open_yet : IsOpen h made
 
--- legal entries with P came behind those so far, and the state went along
+-- legal entries with P, all of them built, came behind those so far, and the state went along
 pub record Continues (old : FlatState) (before : List Entry) (new : FlatState) (now : List Entry)
     (P : List Entry → Type 0) : Type 0 where
   pub made : List Entry
   pub appended : now ≡ before ++ made
-  pub legal : IsLegal (at_rest old) made
-  pub reached : at_rest new ≡ end_of (at_rest old) made
+  pub legal : IsLegal (at_rest [] old) made
+  pub built : IsBuilt (at_rest [] old) made
+  pub reached : at_rest [] new ≡ end_of (at_rest [] old) made
   pub fits : P made

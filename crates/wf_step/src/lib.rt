@@ -1,5 +1,5 @@
-//! One unit of a hart, on a machine of one hart: a whole instruction or call, a trap, an exit, or
-//! an idle.
+//! One unit of a hart, where no other hart is in a try: a whole instruction or call, a trap, an
+//! exit, or an idle.
 #![tactic(auto)]
 
 mod actions;

@@ -1,5 +1,5 @@
-//! Loads, entry by entry, of a machine of one hart.
-ghost use Rattle.std.specs.Prelude.{◌≡◌, ◌<◌, ◌+◌, List, None, Some, length, vec_len, vec_capacity};
+//! Loads, entry by entry, where no other hart is in a try.
+ghost use Rattle.std.specs.Prelude.{◌≡◌, ◌<◌, ◌+◌, [], List, None, Some, length, vec_len, vec_capacity};
 ghost use Rattle.std.specs.Option.{option_map};
 ghost use Rattle.wf_flat.specs.declared.event.Actor.TheVariants.{Hart};
 ghost use Rattle.wf_flat.specs.declared.event.Event.TheVariants as events;
@@ -9,9 +9,11 @@ ghost use Rattle.wf_flat.specs.State.{FlatState};
 ghost use Rattle.wf_outside.specs.Pages.{page_of};
 ghost use Rattle.wf_flat.specs.Serving.{held_by};
 ghost use Rattle.wf_flat.specs.Ordered.{IsOrdered};
-ghost use Rattle.wf_flat.specs.Steps.{OfHart, MayLook, want_in, reserves, flat_after};
+ghost use Rattle.wf_flat.specs.Steps.{OfHart, MayLook, want_in};
+ghost use Rattle.wf_legal.specs.Events.{flat_after};
+ghost use Rattle.wf_flat.specs.Changes.{reserves};
 ghost use Rattle.wf_flat.specs.Follows.{IsUnit};
-ghost use Rattle.wf_step.specs.Stepping.{IsResting, IsActing, InAccess, IsLoad, IsFound, IsNear, IsPageToSync, Begins, Continues, load_at};
+ghost use Rattle.wf_step.specs.Stepping.{IsResting, IsActing, InAccess, IsLoad, IsFound, IsNear, IsPageToSync, HasBegun, Continues, load_at};
 
 use crate::actions::{Operand, finished};
 use crate::finding::{Found, data_value, found_at, text_value};
@@ -26,7 +28,7 @@ fn look(flat: &mut Flat, hart: u8, operand: Operand, reserving: bool, value: u64
     requires ordered { IsOrdered flat.old }
     requires kind { OfHart flat.old hart (λ state. reserves (want_in state) ≡ reserving) }
     ensures { flat.new
-        ≡ flat_after flat.old (Hart hart) (events.Look operand.va operand.width value) }
+        ≡ flat_after [] flat.old (Hart hart) (events.Look operand.va operand.width value) }
 {
     if reserving {
         flat.reserve(hart, operand.va, operand.width, value);
@@ -55,7 +57,7 @@ fn read(
         × MayLook flat.old hart state operand.va operand.width value) }
     requires held { held ≡ held_by flat.old hart (Some (load_at operand)) }
     ensures made { (s : FlatState) (before : List FlatEntry)
-        → Begins s before flat.old journal.old.items hart
+        → HasBegun s before flat.old journal.old.items hart
         → Continues s before flat.new journal.new.items (IsUnit hart) }
     ensures rests { IsResting flat.new }
     ensures harts { length flat.new.harts ≡ length flat.old.harts }
@@ -97,7 +99,7 @@ fn read_page(
     requires found { IsFound flat.old (page_of operand.va) found }
     requires near { IsNear flat.old hart operand.va found.page }
     ensures made { (s : FlatState) (before : List FlatEntry)
-        → Begins s before flat.old journal.old.items hart
+        → HasBegun s before flat.old journal.old.items hart
         → Continues s before flat.new journal.new.items (IsUnit hart) }
     ensures rests { IsResting flat.new }
     ensures harts { length flat.new.harts ≡ length flat.old.harts }
@@ -137,7 +139,7 @@ pub fn load(
     requires ready { InAccess flat.old hart arch.now operand.inst }
     requires met { IsPageToSync flat.old hart operand.va (option_map (λ v. v.items) met) }
     ensures made { (s : FlatState) (before : List FlatEntry)
-        → Begins s before flat.old journal.old.items hart
+        → HasBegun s before flat.old journal.old.items hart
         → Continues s before flat.new journal.new.items (IsUnit hart) }
     ensures rests { IsResting flat.new }
     ensures harts { length flat.new.harts ≡ length flat.old.harts }

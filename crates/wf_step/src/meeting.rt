@@ -7,9 +7,10 @@ ghost use Rattle.wf_flat.specs.declared.state.Life.TheVariants.{Running};
 ghost use Rattle.wf_flat.specs.State.{FlatState};
 ghost use Rattle.wf_outside.specs.Lists.{IsRising};
 ghost use Rattle.wf_flat.specs.Memory.{data_in, has_met, with_met, met_key};
-ghost use Rattle.wf_flat.specs.Steps.{OfHart, MayTake, access_in, taken_by};
-ghost use Rattle.wf_flat.specs.Calls.{Exactly};
-ghost use Rattle.wf_step.specs.Stepping.{IsActing, IsToDo, IsMeeting, IsSame, Begins};
+ghost use Rattle.wf_flat.specs.Steps.{OfHart, MayTake, access_in};
+ghost use Rattle.wf_flat.specs.Changes.{taken_by};
+ghost use Rattle.wf_verdict.specs.declared.work.Todo.TheVariants.{Exactly};
+ghost use Rattle.wf_step.specs.Stepping.{IsActing, IsToDo, IsMeeting, IsSame, HasBegun};
 
 use crate::finding::generation_of;
 use crate::stepping::append;
@@ -32,8 +33,8 @@ fn sync(
     requires ready { OfHart flat.old hart
         (λ state. IsToDo flat.old hart state (Exactly (events.Sync generation page) ∷ [])) }
     ensures made { (s : FlatState) (before : List FlatEntry)
-        → Begins s before flat.old journal.old.items hart
-        → Begins s before flat.new journal.new.items hart }
+        → HasBegun s before flat.old journal.old.items hart
+        → HasBegun s before flat.new journal.new.items hart }
     ensures acts { IsActing flat.new hart None }
     ensures same { IsSame flat.old flat.new }
     ensures met { flat.new.met ≡ with_met flat.old.met generation page }
@@ -59,8 +60,8 @@ pub fn meet(
     requires acts { IsActing flat.old hart None }
     requires met { IsMeeting flat.old hart page (option_map (λ v. v.items) met) }
     ensures made { (s : FlatState) (before : List FlatEntry)
-        → Begins s before flat.old journal.old.items hart
-        → Begins s before flat.new journal.new.items hart }
+        → HasBegun s before flat.old journal.old.items hart
+        → HasBegun s before flat.new journal.new.items hart }
     ensures acts { IsActing flat.new hart None }
     ensures same { IsSame flat.old flat.new }
     ensures met { OfHart flat.new hart
@@ -82,8 +83,8 @@ pub fn take(flat: &mut Flat, journal: &mut Vec<Entry>, hart: u8, page: u32)
     requires may { OfHart flat.old hart
         (λ state. (state.life ≡ Running) × MayTake flat.old state (access_in state) page) }
     ensures made { (s : FlatState) (before : List FlatEntry)
-        → Begins s before flat.old journal.old.items hart
-        → Begins s before flat.new journal.new.items hart }
+        → HasBegun s before flat.old journal.old.items hart
+        → HasBegun s before flat.new journal.new.items hart }
     ensures acts { IsActing flat.new hart (Some page) }
     ensures harts { flat.new.harts ≡ flat.old.harts }
     ensures gens { flat.new.gens ≡ flat.old.gens }

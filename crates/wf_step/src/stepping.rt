@@ -8,12 +8,13 @@ ghost use Rattle.wf_flat.specs.declared.event.Entry.{Entry as FlatEntry};
 ghost use Rattle.wf_flat.specs.declared.state.Life.TheVariants.{Running};
 ghost use Rattle.wf_flat.specs.State.{FlatState};
 ghost use Rattle.wf_flat.specs.Refusals.{refused_answer};
-ghost use Rattle.wf_flat.specs.Steps.{OfHart, access_in, fetched_with, answered, arch_after};
-ghost use Rattle.wf_flat.specs.Calls.{Exactly};
+ghost use Rattle.wf_flat.specs.Steps.{OfHart, access_in, arch_after};
+ghost use Rattle.wf_flat.specs.Changes.{fetched_with, answered};
+ghost use Rattle.wf_verdict.specs.declared.work.Todo.TheVariants.{Exactly};
 ghost use Rattle.wf_flat.specs.Ordered.{IsOrdered};
 ghost use Rattle.wf_flat.specs.Follows.{IsUnit};
-ghost use Rattle.wf_flat.specs.Unbuilt.{IsUnbuilt};
-ghost use Rattle.wf_step.specs.Stepping.{IsStart, IsResting, IsActing, IsAt, IsInTry, IsToDo, IsToMeet, IsDone, IsAction, Begins, Continues};
+ghost use Rattle.wf_legal.specs.Built.{IsUnbuilt};
+ghost use Rattle.wf_step.specs.Stepping.{IsStart, IsResting, IsActing, IsAt, IsInTry, IsToDo, IsToMeet, IsDone, IsAction, HasBegun, Continues};
 
 use crate::actions::{Action, action_of};
 use crate::finding::page_to_sync;
@@ -79,9 +80,10 @@ fn fetch(flat: &mut Flat, journal: &mut Vec<Entry>, hart: u8, pc: u64, word: u32
     requires room { vec_len journal.old < vec_capacity journal.old }
     requires acts { IsActing flat.old hart None }
     requires ready { OfHart flat.old hart (λ state. IsAt flat.old state pc word) }
+    requires built { IsUnbuilt flat.old hart pc → ⊥ }
     ensures made { (s : FlatState) (before : List FlatEntry)
-        → Begins s before flat.old journal.old.items hart
-        → Begins s before flat.new journal.new.items hart }
+        → HasBegun s before flat.old journal.old.items hart
+        → HasBegun s before flat.new journal.new.items hart }
     ensures acts { IsActing flat.new hart None }
     ensures hart { slice_get flat.new.harts hart
         ≡ option_map (fetched_with word) (slice_get flat.old.harts hart) }
@@ -102,7 +104,7 @@ pub fn end(flat: &mut Flat, journal: &mut Vec<Entry>, hart: u8, held: Option<u32
     requires acts { IsActing flat.old hart held }
     requires done { IsDone flat.old hart held next }
     ensures made { (s : FlatState) (before : List FlatEntry)
-        → Begins s before flat.old journal.old.items hart
+        → HasBegun s before flat.old journal.old.items hart
         → Continues s before flat.new journal.new.items (IsUnit hart) }
     ensures rests { IsResting flat.new }
     ensures harts { length flat.new.harts ≡ length flat.old.harts }
@@ -118,7 +120,7 @@ pub fn trap(flat: &mut Flat, journal: &mut Vec<Entry>, hart: u8, cause: u8, valu
     requires ready { OfHart flat.old hart
         (λ state. IsToDo flat.old hart state (Exactly (events.Trap cause value) ∷ [])) }
     ensures made { (s : FlatState) (before : List FlatEntry)
-        → Begins s before flat.old journal.old.items hart
+        → HasBegun s before flat.old journal.old.items hart
         → Continues s before flat.new journal.new.items (IsUnit hart) }
     ensures rests { IsResting flat.new }
     ensures harts { length flat.new.harts ≡ length flat.old.harts }
@@ -136,7 +138,7 @@ fn exit(flat: &mut Flat, journal: &mut Vec<Entry>, hart: u8, code: u64)
     requires ready { OfHart flat.old hart
         (λ state. IsToDo flat.old hart state (Exactly (events.Exit code) ∷ [])) }
     ensures made { (s : FlatState) (before : List FlatEntry)
-        → Begins s before flat.old journal.old.items hart
+        → HasBegun s before flat.old journal.old.items hart
         → Continues s before flat.new journal.new.items (IsUnit hart) }
     ensures rests { IsResting flat.new }
     ensures harts { length flat.new.harts ≡ length flat.old.harts }
@@ -156,7 +158,7 @@ fn answer(flat: &mut Flat, journal: &mut Vec<Entry>, hart: u8, next: Arch)
         (λ state. IsToDo flat.old hart state (Exactly (events.End next.pc) ∷ [])
         × (next ≡ arch_after state)) }
     ensures made { (s : FlatState) (before : List FlatEntry)
-        → Begins s before flat.old journal.old.items hart
+        → HasBegun s before flat.old journal.old.items hart
         → Continues s before flat.new journal.new.items (IsUnit hart) }
     ensures rests { IsResting flat.new }
     ensures harts { length flat.new.harts ≡ length flat.old.harts }
@@ -177,7 +179,7 @@ fn put_byte(flat: &mut Flat, journal: &mut Vec<Entry>, hart: u8, byte: u8, next:
         (Exactly (events.Out byte) ∷ Exactly (events.End next.pc) ∷ [])
         × (next ≡ arch_after (answered 0 state))) }
     ensures made { (s : FlatState) (before : List FlatEntry)
-        → Begins s before flat.old journal.old.items hart
+        → HasBegun s before flat.old journal.old.items hart
         → Continues s before flat.new journal.new.items (IsUnit hart) }
     ensures rests { IsResting flat.new }
     ensures harts { length flat.new.harts ≡ length flat.old.harts }
@@ -200,7 +202,7 @@ fn refuse(flat: &mut Flat, journal: &mut Vec<Entry>, hart: u8, number: u64, next
         (Exactly (events.Refused (refusals.Number number)) ∷ Exactly (events.End next.pc) ∷ [])
         × (next ≡ arch_after (answered (refused_answer (refusals.Number number)) state))) }
     ensures made { (s : FlatState) (before : List FlatEntry)
-        → Begins s before flat.old journal.old.items hart
+        → HasBegun s before flat.old journal.old.items hart
         → Continues s before flat.new journal.new.items (IsUnit hart) }
     ensures rests { IsResting flat.new }
     ensures harts { length flat.new.harts ≡ length flat.old.harts }
@@ -239,7 +241,7 @@ fn carry_out(
     requires action { IsAction arch.now word action }
     requires met { IsToMeet flat.old hart action (option_map (λ v. v.items) met) }
     ensures made { (s : FlatState) (before : List FlatEntry)
-        → Begins s before flat.old journal.old.items hart
+        → HasBegun s before flat.old journal.old.items hart
         → Continues s before flat.new journal.new.items (IsUnit hart) }
     ensures rests { IsResting flat.new }
     ensures harts { length flat.new.harts ≡ length flat.old.harts }

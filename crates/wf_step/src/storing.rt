@@ -1,4 +1,4 @@
-//! Stores and atomic operations, entry by entry, of a machine of one hart.
+//! Stores and atomic operations, entry by entry, where no other hart is in a try.
 ghost use Rattle.std.specs.Prelude.{◌≡◌, ◌<◌, ◌+◌, ◌%◌, ◌^◌, ◌*◌, List, None, Some, IfOk, length, vec_len, vec_capacity, false, true};
 ghost use Rattle.std.specs.Option.{option_map};
 ghost use Rattle.rv_inst.specs.Spelling.{IsSpelled};
@@ -12,7 +12,7 @@ ghost use Rattle.wf_flat.specs.Accesses.{access_of, has_reserved as reserved, st
 ghost use Rattle.wf_flat.specs.Ordered.{IsOrdered};
 ghost use Rattle.wf_flat.specs.Steps.{OfHart, MayMiss, access_in, is_conditional, is_lost as lost};
 ghost use Rattle.wf_flat.specs.Follows.{IsUnit};
-ghost use Rattle.wf_step.specs.Stepping.{IsResting, IsActing, InAccess, IsStore, IsFound, IsNear, IsPageToSync, WillReach, WillWrite, Begins, Continues, store_at, store_want};
+ghost use Rattle.wf_step.specs.Stepping.{IsResting, IsActing, InAccess, IsStore, IsFound, IsNear, IsPageToSync, WillReach, WillWrite, HasBegun, Continues, store_at, store_want};
 
 use crate::actions::{Operand, Write, finished};
 use crate::finding::{Found, data_value, found_at, page_to_sync, text_value};
@@ -53,7 +53,7 @@ fn put(
     requires ready { InAccess flat.old hart arch.now operand.inst }
     requires held { Some page ≡ held_by flat.old hart (Some (store_at operand)) }
     ensures made { (s : FlatState) (before : List FlatEntry)
-        → Begins s before flat.old journal.old.items hart
+        → HasBegun s before flat.old journal.old.items hart
         → Continues s before flat.new journal.new.items (IsUnit hart) }
     ensures rests { IsResting flat.new }
     ensures harts { length flat.new.harts ≡ length flat.old.harts }
@@ -95,7 +95,7 @@ fn put_if(
     requires ready { InAccess flat.old hart arch.now operand.inst }
     requires held { Some page ≡ held_by flat.old hart (Some (store_at operand)) }
     ensures made { (s : FlatState) (before : List FlatEntry)
-        → Begins s before flat.old journal.old.items hart
+        → HasBegun s before flat.old journal.old.items hart
         → Continues s before flat.new journal.new.items (IsUnit hart) }
     ensures rests { IsResting flat.new }
     ensures harts { length flat.new.harts ≡ length flat.old.harts }
@@ -138,7 +138,7 @@ fn swap(
     requires ready { InAccess flat.old hart arch.now operand.inst }
     requires held { Some page ≡ held_by flat.old hart (Some (store_at operand)) }
     ensures made { (s : FlatState) (before : List FlatEntry)
-        → Begins s before flat.old journal.old.items hart
+        → HasBegun s before flat.old journal.old.items hart
         → Continues s before flat.new journal.new.items (IsUnit hart) }
     ensures rests { IsResting flat.new }
     ensures harts { length flat.new.harts ≡ length flat.old.harts }
@@ -177,7 +177,7 @@ fn miss(flat: &mut Flat, journal: &mut Vec<Entry>, hart: u8, arch: &Arch, operan
         (λ state. (state.life ≡ Running)
         × MayMiss flat.old hart state (access_in state) operand.va) }
     ensures made { (s : FlatState) (before : List FlatEntry)
-        → Begins s before flat.old journal.old.items hart
+        → HasBegun s before flat.old journal.old.items hart
         → Continues s before flat.new journal.new.items (IsUnit hart) }
     ensures rests { IsResting flat.new }
     ensures harts { length flat.new.harts ≡ length flat.old.harts }
@@ -206,7 +206,7 @@ fn write_page(
     requires near { IsNear flat.old hart operand.va found.page }
     requires takes { WillWrite flat.old hart operand write true }
     ensures made { (s : FlatState) (before : List FlatEntry)
-        → Begins s before flat.old journal.old.items hart
+        → HasBegun s before flat.old journal.old.items hart
         → Continues s before flat.new journal.new.items (IsUnit hart) }
     ensures rests { IsResting flat.new }
     ensures harts { length flat.new.harts ≡ length flat.old.harts }
@@ -293,7 +293,7 @@ pub fn store(
     requires met { WillReach flat.old hart operand write
         → IsPageToSync flat.old hart operand.va (option_map (λ v. v.items) met) }
     ensures made { (s : FlatState) (before : List FlatEntry)
-        → Begins s before flat.old journal.old.items hart
+        → HasBegun s before flat.old journal.old.items hart
         → Continues s before flat.new journal.new.items (IsUnit hart) }
     ensures rests { IsResting flat.new }
     ensures harts { length flat.new.harts ≡ length flat.old.harts }

@@ -2,8 +2,8 @@
 use crate::runs::journal_of;
 use std::test::Fail;
 
-// What is stored, as the two words that follow a program in its text: the bytes f8 e9 da cb 7c ad 6e 8f,
-// lowest first. The top bit of its low 1, 2, 4 and 8 bytes is 1.
+// What is stored, as the two words that follow a program in its text: the bytes f8 e9 da cb 7c ad
+// 6e 8f, lowest first. The top bit of its low 1, 2, 4 and 8 bytes is 1.
 const STORED_LOW: u32 = 0xCBDA_E9F8;
 
 const STORED_HIGH: u32 = 0x8F6E_AD7C;
@@ -13,8 +13,8 @@ const LOADED_LOW: u32 = 0x4BDA_69F8;
 
 const LOADED_HIGH: u32 = 0x8F6E_AD7C;
 
-// Stores: the word, its width, the last digit of its address, what is put, and the doubleword then, where
-// all its bits were ones.
+// Stores: the word, its width, the last digit of its address, what is put, and the doubleword then,
+// where all its bits were ones.
 const STORES: [(u32, u8, u8, u64, u64); 15] = [
     // sb x5, -8(x2)
     (0xFE51_0C23, 1, 0x8, 0xF8, 0xFFFF_FFFF_FFFF_FFF8),
@@ -54,8 +54,8 @@ const STORES: [(u32, u8, u8, u64, u64); 15] = [
     ),
 ];
 
-// Loads: the word of a load of data and that of a load of text, their width, the last digit of their
-// addresses, what is looked at, and what is in the register then.
+// Loads: the word of a load of data and that of a load of text, their width, the last digit of
+// their addresses, what is looked at, and what is in the register then.
 const LOADS: [(u32, u32, u8, u8, u64, u64); 29] = [
     // lb x7, -8(x2); lb x8, 24(x6)
     (

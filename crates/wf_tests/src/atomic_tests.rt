@@ -1,5 +1,5 @@
-//! Products and quotients, atomic operations, and the traps of these, whose results were worked by hand from
-//! the manual.
+//! Products and quotients, atomic operations, and the traps of these, whose results were worked by
+//! hand from the manual.
 use crate::runs::journal_of;
 use std::test::Fail;
 
@@ -80,7 +80,8 @@ const OPERAND: [u32; 2] = [0x3C3C_4321, 0xC3A5_0F1E];
 
 const BEFORE: [u32; 2] = [0xF0F0_1234, 0x0FF0_5678];
 
-// Atomic operations on words: what each makes of f0f01234, the low word of memory, and of 0ff05678, the high one.
+// Atomic operations on words: what each makes of f0f01234, the low word of memory, and of 0ff05678,
+// the high one.
 const WORD_SWAPS: [(u32, u32, u32); 9] = [
     // amoswap.w x8, x5, (x9)
     (0x0854_A42F, 0x3C3C_4321, 0x3C3C_4321),

@@ -1,4 +1,5 @@
-//! Load-reserved and store-conditional instructions, whose reports were worked by hand from the manual.
+//! Load-reserved and store-conditional instructions, whose reports were worked by hand from the
+//! manual.
 use crate::runs::journal_of;
 use std::alloc::Global;
 use std::test::Fail;
@@ -43,8 +44,8 @@ h0 fetch 10008 ff810493
 h0 end 1000c
 ";
 
-// Programs behind these: their words, what is printed of them up to x9, how often their page was written then, and the
-// word at 3e0000fff8.
+// Programs behind these: their words, what is printed of them up to x9, how often their page was
+// written then, and the word at 3e0000fff8.
 const CONDITIONAL_STORES: [(&[u32], &str, u64, u64); 16] = [
     // lr.d x7, (x9); sc.d x8, x9, (x9)
     (
@@ -384,8 +385,8 @@ h0 end 1000c
     Ok(())
 }
 
-// What is printed of a program behind lui x8, 0x80000; sd x8, -8(x2); addi x9, x2, -8, from its own first entry
-// on: at first 3e0000fff8 has ffffffff80000000, and its page was written once.
+// What is printed of a program behind lui x8, 0x80000; sd x8, -8(x2); addi x9, x2, -8, from its own
+// first entry on: at first 3e0000fff8 has ffffffff80000000, and its page was written once.
 fn conditional(alloc: Global, program: &[u32]) -> Result<Vec<u8>, Fail> {
     let mut words = vec![in alloc; 0x8000_0437, 0xFE81_3C23, 0xFF81_0493]?;
     words.extend_from_slice(program)?;

@@ -11,8 +11,8 @@ use wf_journal::report;
 use wf_outside::Limits;
 use wf_step::step;
 
-// Nine words, two in each: addi x5, x0, -1; ld x4, -8(x2); sd x5, -8(x2); ld x4, -8(x2); sb x0, -8(x2);
-// lbu x4, -7(x2); lui x3, 0xfffff; add x3, x3, x2; ld x4, -8(x3).
+// Nine words, two in each: addi x5, x0, -1; ld x4, -8(x2); sd x5, -8(x2); ld x4, -8(x2); sb x0,
+// -8(x2); lbu x4, -7(x2); lui x3, 0xfffff; add x3, x3, x2; ld x4, -8(x3).
 const PLAIN: [u64; 5] = [
     0xFF81_3203_FFF0_0293,
     0xFF81_3203_FE51_3C23,

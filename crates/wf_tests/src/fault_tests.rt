@@ -1,4 +1,5 @@
-//! Accesses that trap: at addresses that are no multiples of their widths, and at pages that are not there.
+//! Accesses that trap: at addresses that are no multiples of their widths, and at pages that are
+//! not there.
 use crate::runs::journal_of;
 use std::test::Fail;
 
@@ -46,8 +47,8 @@ const FAULTS: [(u32, u8, u64); 20] = [
     (0xFE10_0FA3, 15, 0xFFFF_FFFF_FFFF_FFFF),
 ];
 
-// Traps far from all pages: the three words that put the address into x3, that of the access, the cause, and the
-// address.
+// Traps far from all pages: the three words that put the address into x3, that of the access, the
+// cause, and the address.
 const FAR_FAULTS: [(u32, u32, u32, u32, u8, u64); 9] = [
     // addi x3, x0, 1; slli x3, x3, 38; add x3, x3, x0; ld x1, 0(x3)
     (

@@ -168,8 +168,8 @@ h0 trap 12 11000
 #[test]
 fn too_many_frames(rt: HostRuntime) -> Result<(), Fail> {
     let alloc = rt.alloc();
-    // One page of text, so many of data, four of the stack, and seven nodes: the root; two below it, for the image
-    // and for the stack; three below the one and one below the other.
+    // One page of text, so many of data, four of the stack, and seven nodes: the root; two below
+    // it, for the image and for the stack; three below the one and one below the other.
     for (pages, frames) in [(1012, None), (1013, Some(1025)), (1100, Some(1112))] {
         let mut builder = ElfBuilder::new(alloc);
         builder.text(0x1_0000, &[0x0000_0073])?;

@@ -1,11 +1,13 @@
-//! Tests of runs, of the machine's starts, of what a last count of writes does, and of reports, over what the
-//! crates of the machine make public.
+//! Tests of runs, of the machine's starts, of what a last count of writes does, and of reports,
+//! over what the crates of the machine make public.
 #![tactic(auto)]
 
 #[cfg(test)]
 mod access_tests;
 #[cfg(test)]
 mod atomic_tests;
+#[cfg(test)]
+mod check_tests;
 #[cfg(test)]
 mod conditional_tests;
 #[cfg(test)]

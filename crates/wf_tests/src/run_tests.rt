@@ -1,4 +1,5 @@
-//! Runs of one small program: what is answered and put for words, scripts and files, also where reads or puts fail.
+//! Runs of one small program: what is answered and put for words, scripts and files, also where
+//! reads or puts fail.
 use crate::runs::{answer, files_of, run, unbuilt, words_of};
 use crate::small_images::{TEXT, plain_image, report_with};
 use std::test::Fail;

@@ -26,8 +26,8 @@ pub fn files_of(alloc: Global, image: &[u8], script: &[u8]) -> Result<Vec<(Text,
     Ok(files)
 }
 
-/// What words answer on an image named a and a script named b, and what is put, where reads and puts
-/// of these numbers fail.
+/// What words answer on an image named a and a script named b, and what is put, where reads and
+/// puts of these numbers fail.
 pub fn answer(
     alloc: Global,
     line: &[&str],
@@ -51,8 +51,8 @@ pub fn unbuilt(what: Unbuilt) -> Status {
     Status::Unbuilt { what }
 }
 
-/// What is printed of a run of a script on these words, from its first entry to the state at its end;
-/// nothing where the run isn't done.
+/// What is printed of a run of a script on these words, from its first entry to the state at its
+/// end; nothing where the run isn't done.
 pub fn journal_of(alloc: Global, words: &[u32], script: &str) -> Result<Vec<u8>, Fail> {
     let (status, got) = run(alloc, &plain_image(alloc, words)?, script)?;
     if status != Status::Done {

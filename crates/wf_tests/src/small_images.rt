@@ -7,7 +7,8 @@ use std::test::Fail;
 /// The text of the image: `addi x17, x0, 0`, `addi x10, x0, 7`, `ecall`.
 pub const TEXT: [u32; 3] = [0x0000_0893, 0x0070_0513, 0x0000_0073];
 
-// The places of the sizes of the first segment in the file: p_filesz and p_memsz (System V ABI, "Program Header").
+// The places of the sizes of the first segment in the file: p_filesz and p_memsz (System V ABI,
+// "Program Header").
 const FILE_SIZE: u64 = 96;
 
 const MEMORY_SIZE: u64 = 104;

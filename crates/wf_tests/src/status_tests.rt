@@ -1,7 +1,7 @@
 //! The literal lines of statuses, and their exit statuses.
 use crate::runs::unbuilt;
 use std::test::Fail;
-use wf_status::{ImageRule, LimitKind, SourceRule, Status, Unbuilt};
+use wf_status::{EntryRule, ImageRule, LimitKind, SourceRule, Status, Unbuilt};
 
 #[test]
 fn statuses(rt: HostRuntime) -> Result<(), Fail> {
@@ -28,6 +28,7 @@ fn statuses(rt: HostRuntime) -> Result<(), Fail> {
             10,
             "wfpatch: unbuilt script line 12",
         ),
+        (Status::Journal { line: 12 }, 4, "wfpatch: journal line 12"),
         (unbuilt(Unbuilt::Journal), 10, "wfpatch: unbuilt journal"),
         (
             unbuilt(Unbuilt::Step { pc: 0x1_00AC }),
@@ -82,6 +83,41 @@ fn rules_of_images(rt: HostRuntime) -> Result<(), Fail> {
     ] {
         let status = Status::Image { rule, at: 63 };
         assert_eq!(rt; status.code(), 2, "{line}");
+        assert_eq!(rt; status.line(rt.alloc())?.bytes(), line.as_bytes(), "{line}");
+    }
+    Ok(())
+}
+
+#[test]
+fn rules_of_entries(rt: HostRuntime) -> Result<(), Fail> {
+    for (rule, line) in [
+        (EntryRule::Fetch, "wfpatch: illegal entry 12 fetch"),
+        (EntryRule::Look, "wfpatch: illegal entry 12 look"),
+        (EntryRule::Take, "wfpatch: illegal entry 12 take"),
+        (EntryRule::Put, "wfpatch: illegal entry 12 put"),
+        (EntryRule::Swap, "wfpatch: illegal entry 12 swap"),
+        (EntryRule::Miss, "wfpatch: illegal entry 12 miss"),
+        (EntryRule::End, "wfpatch: illegal entry 12 end"),
+        (EntryRule::Again, "wfpatch: illegal entry 12 again"),
+        (EntryRule::Wait, "wfpatch: illegal entry 12 wait"),
+        (EntryRule::Enter, "wfpatch: illegal entry 12 enter"),
+        (EntryRule::Sync, "wfpatch: illegal entry 12 sync"),
+        (EntryRule::Trap, "wfpatch: illegal entry 12 trap"),
+        (EntryRule::Exit, "wfpatch: illegal entry 12 exit"),
+        (EntryRule::Out, "wfpatch: illegal entry 12 out"),
+        (EntryRule::Idle, "wfpatch: illegal entry 12 idle"),
+        (EntryRule::Map, "wfpatch: illegal entry 12 map"),
+        (EntryRule::Going, "wfpatch: illegal entry 12 going"),
+        (EntryRule::Ending, "wfpatch: illegal entry 12 ending"),
+        (EntryRule::Gone, "wfpatch: illegal entry 12 gone"),
+        (EntryRule::Born, "wfpatch: illegal entry 12 born"),
+        (EntryRule::Move, "wfpatch: illegal entry 12 move"),
+        (EntryRule::Dead, "wfpatch: illegal entry 12 dead"),
+        (EntryRule::Refused, "wfpatch: illegal entry 12 refused"),
+        (EntryRule::Final, "wfpatch: illegal entry 12 final"),
+    ] {
+        let status = Status::Illegal { index: 12, rule };
+        assert_eq!(rt; status.code(), 9, "{line}");
         assert_eq!(rt; status.line(rt.alloc())?.bytes(), line.as_bytes(), "{line}");
     }
     Ok(())

@@ -7,16 +7,16 @@ use Rattle.wf_status.specs.declared.status.Status.TheVariants.{Done, Image, Limi
 use Rattle.wf_status.specs.declared.status.LimitKind.TheVariants.{File, Frames}
 use Rattle.wf_status.specs.declared.status.Unbuilt.TheVariants.{Script, Step}
 use Rattle.wf_flat.specs.declared.event.Entry.{Entry}
-use Rattle.wf_flat.specs.Legal.{end_of}
-use Rattle.wf_laws.specs.Laws.{HartsAreDetermined, UnbuiltHasNoUnit}
+use Rattle.wf_legal.specs.Legal.{end_of}
+use Rattle.wf_next.specs.Determined.{HartsAreDetermined}
 use Rattle.wf_top.specs.declared.script.Command.{Command}
 use Rattle.wf_status.specs.declared.rules.ImageRule.{ImageRule}
 use Rattle.wf_fetch.specs.Held.{IsTooLong, HoldsBytes, max_file}
-use Rattle.wf_fetch.specs.Loaded.{image_fault, loaded}
+use Rattle.wf_fetch.specs.Loaded.{HoldsImage, image_fault, loaded}
 use Rattle.wf_top.specs.PlainScript.{IsScript, IsScriptFault}
 use Rattle.wf_top.specs.Running.{frames_of, most_frames, start_of}
 use Rattle.wf_journal.specs.Reports.{report_bytes}
-use Rattle.wf_top.specs.Answers.{HoldsImage, HoldsBoth, HoldsRun, CallsFor}
+use Rattle.wf_top.specs.Answers.{HoldsBoth, HoldsRun, CallsFor}
 use Rattle.wf_top.specs.Laws.{AnswersAreOne, ReportsAreOne, RunsMeetNothing}
 use Rattle.wf_flat.proofs.ListLemmas.{some_and}
 use Rattle.wf_top.proofs.ScriptLemmas.{no_fault, same_script, same_fault}
@@ -148,16 +148,16 @@ by_frames image script number most (Unbuilt (Step pc)) p q = absurd (frames_and 
 by_frames image script number most Done p q = absurd (frames_and image script number most _ p q)
 by_frames image script number most other p q = absurd q
 
-by_step : HartsAreDetermined → UnbuiltHasNoUnit → (image script : Option (List ℕ)) (pc : ℕ) (other : Status) → CallsFor image script (Unbuilt (Step pc)) → CallsFor image script other → Unbuilt (Step pc) ≡ other
-by_step law none image script pc (Limit File n m) p q = absurd (limit_and image script q.2 _ (image_held p) p.is_script)
-by_step law none image script pc (Limit Frames n m) p q = absurd (frames_and image script n m _ q p)
-by_step law none image script pc (Image rule at) p q = absurd (no_image image (rule, at) p.image q p.is_image)
-by_step law none image script pc (Unbuilt (Script line)) p q = absurd (not_both script p.script line p.is_script q.1)
-by_step law none image script pc (Unbuilt (Step at)) p q =
+by_step : HartsAreDetermined → (image script : Option (List ℕ)) (pc : ℕ) (other : Status) → CallsFor image script (Unbuilt (Step pc)) → CallsFor image script other → Unbuilt (Step pc) ≡ other
+by_step law image script pc (Limit File n m) p q = absurd (limit_and image script q.2 _ (image_held p) p.is_script)
+by_step law image script pc (Limit Frames n m) p q = absurd (frames_and image script n m _ q p)
+by_step law image script pc (Image rule at) p q = absurd (no_image image (rule, at) p.image q p.is_image)
+by_step law image script pc (Unbuilt (Script line)) p q = absurd (not_both script p.script line p.is_script q.1)
+by_step law image script pc (Unbuilt (Step at)) p q =
     let b = both_same image script _ _ p q in
-    let e : pc ≡ at = meets_one law none (start_of b.0) (start_alone b.0) b.1 pc at b.2.1 b.3.1 in cc
-by_step law none image script pc Done p q = let b = both_same image script _ _ p q in absurd (b.3.1 pc b.2.1)
-by_step law none image script pc other p q = absurd q
+    let e : pc ≡ at = meets_one law (start_of b.0) (start_alone b.0) b.1 pc at b.2.1 b.3.1 in cc
+by_step law image script pc Done p q = let b = both_same image script _ _ p q in absurd (b.3.1 pc b.2.1)
+by_step law image script pc other p q = absurd q
 
 by_done : (image script : Option (List ℕ)) (other : Status) → CallsFor image script Done → CallsFor image script other → Done ≡ other
 by_done image script (Limit File n m) p q = absurd (limit_and image script q.2 _ (image_held p) p.is_script)
@@ -168,19 +168,19 @@ by_done image script (Unbuilt (Step at)) p q = let b = both_same image script _ 
 by_done image script Done p q = refl
 by_done image script other p q = absurd q
 
-pub answers_are_one : HartsAreDetermined → UnbuiltHasNoUnit → AnswersAreOne
-answers_are_one law none image script (Limit File number most) other p q = by_limit image script number most other p q
-answers_are_one law none image script (Limit Frames number most) other p q = by_frames image script number most other p q
-answers_are_one law none image script (Image rule at) other p q = by_image image script rule at other p q
-answers_are_one law none image script (Unbuilt (Script line)) other p q = by_script image script line other p q
-answers_are_one law none image script (Unbuilt (Step pc)) other p q = by_step law none image script pc other p q
-answers_are_one law none image script Done other p q = by_done image script other p q
-answers_are_one law none image script one other p q = absurd p
+pub answers_are_one : HartsAreDetermined → AnswersAreOne
+answers_are_one law image script (Limit File number most) other p q = by_limit image script number most other p q
+answers_are_one law image script (Limit Frames number most) other p q = by_frames image script number most other p q
+answers_are_one law image script (Image rule at) other p q = by_image image script rule at other p q
+answers_are_one law image script (Unbuilt (Script line)) other p q = by_script image script line other p q
+answers_are_one law image script (Unbuilt (Step pc)) other p q = by_step law image script pc other p q
+answers_are_one law image script Done other p q = by_done image script other p q
+answers_are_one law image script one other p q = absurd p
 
 pub reports_are_one : HartsAreDetermined → ReportsAreOne
 reports_are_one law image script one other p q =
-    let same : p.journal ≡ q.journal = follows_same law (start_of image) (start_alone image) script p.journal q.journal p.follows q.follows p.legal q.legal in
+    let same : p.journal ≡ q.journal = follows_same law (start_of image) (start_alone image) script p.journal q.journal p.follows q.follows (p.legal, p.built) (q.legal, q.built) in
     p.text_is ∙ ap (λ (j : List Entry). report_bytes j (end_of (start_of image) j).flat) same ∙ sym q.text_is
 
-pub runs_meet_nothing : HartsAreDetermined → UnbuiltHasNoUnit → RunsMeetNothing
-runs_meet_nothing law none image script text pc p d = meets_nothing law none (start_of image) (start_alone image) script pc p.journal p.follows p.legal d
+pub runs_meet_nothing : HartsAreDetermined → RunsMeetNothing
+runs_meet_nothing law image script text pc p d = meets_nothing law (start_of image) (start_alone image) script pc p.journal p.follows (p.legal, p.built) d

@@ -3,14 +3,15 @@ use Rattle.std.proofs.Common.{◌≡◌, ◌<◌, ◌+◌, ◌++◌, ℕ, zero, 
 use Rattle.std.proofs.lemmas.List.{take_more}
 use Rattle.wf_flat.specs.declared.event.Entry.{Entry}
 use Rattle.wf_flat.specs.State.{FlatState}
-use Rattle.wf_flat.specs.Legal.{Moment, IsLegal, end_of, at_rest}
+use Rattle.wf_legal.specs.Legal.{Moment, IsLegal, end_of, at_rest}
 use Rattle.wf_flat.specs.Follows.{IsUnit, AreUnits}
-use Rattle.wf_flat.specs.Unbuilt.{IsUnbuilt}
+use Rattle.wf_legal.specs.Built.{IsBuilt, IsUnbuilt}
+use Rattle.wf_step.proofs.BuiltLemmas.{built-append}
 use Rattle.wf_top.specs.declared.script.Command.{Command}
 use Rattle.wf_top.specs.declared.script.Command.TheVariants.{Step}
 use Rattle.wf_top.specs.Follows.{IsBlock, Follows, MeetsUnbuiltAt, MeetsUnbuilt}
 use Rattle.wf_step.specs.Stepping.{IsResting, Continues}
-use Rattle.wf_flat.proofs.JournalLemmas.{legal-append, end_of-append}
+use Rattle.wf_legal.proofs.JournalLemmas.{legal-append, end_of-append}
 use Rattle.wf_top.specs.Following.{StopsIn}
 
 -- the hart made fewer units, and then met what is not built
@@ -19,8 +20,9 @@ pub record StopsInUnits (old : FlatState) (hart all pc : ℕ) : Type 0 where
   pub units : ℕ
   pub fewer : units < all
   pub fits : AreUnits hart units made
-  pub legal : IsLegal (at_rest old) made
-  pub meets : MeetsUnbuiltAt (end_of (at_rest old) made) hart pc
+  pub legal : IsLegal (at_rest [] old) made
+  pub built : IsBuilt (at_rest [] old) made
+  pub meets : MeetsUnbuiltAt (end_of (at_rest [] old) made) hart pc
 
 -- going on
 pub continues_more : {s mid new : FlatState} {old mids now : List Entry} {P Q : List Entry → Type 0} (R : List Entry → Type 0)
@@ -29,7 +31,8 @@ continues_more {s = s} R c d join =
     record {
       made = c.made ++ d.made;
       appended = rw (d.appended, c.appended, append_assoc) refl;
-      legal = legal-append (at_rest s) c.made d.made c.legal (rw (← c.reached) d.legal);
+      legal = legal-append (at_rest [] s) c.made d.made c.legal (rw (← c.reached) d.legal);
+      built = built-append (at_rest [] s) c.made d.made c.built (rw (← c.reached) d.built);
       reached = rw (end_of-append, ← c.reached) d.reached;
       fits = join c.made d.made c.fits d.fits;
     }
@@ -60,13 +63,14 @@ stops_in h n k pc c lt r u =
       fewer = lt;
       fits = c.fits;
       legal = c.legal;
+      built = c.built;
       meets = subst (λ (m : Moment). MeetsUnbuiltAt m h pc) c.reached (record { no_call = refl; no_one = r.no_one; unbuilt = u });
     }
 
 -- so it was in a command of so many
 pub stops_in_step : (s : FlatState) (h n pc : ℕ) → StopsInUnits s h n pc → StopsIn s (Step h n) pc
 stops_in_step s h n pc d =
-    record { made = d.made; cut = Step h d.units; hart = h; is_cut = (refl, refl, d.fewer); fits = d.fits; legal = d.legal; meets = d.meets }
+    record { made = d.made; cut = Step h d.units; hart = h; is_cut = (refl, refl, d.fewer); fits = d.fits; legal = d.legal; built = d.built; meets = d.meets }
 
 same_at : {A : Type 0} (xs : List A) (i : ℕ) (d e : A) → i < length xs → get_or xs i d ≡ get_or xs i e
 same_at [] i d e h = absurd (omega arith)
@@ -103,7 +107,7 @@ parts (command ∷ commands) (suc i) x h is =
 
 -- what is not built was met in a command
 pub meets_unbuilt : {s mid : FlatState} {old mids : List Entry} (commands : List Command) (i : ℕ) (d : Command) (pc : ℕ) → i < length commands
-    → Continues s old mid mids (Follows (take i commands)) → StopsIn mid (get_or commands i d) pc → MeetsUnbuilt (at_rest s) commands pc
+    → Continues s old mid mids (Follows (take i commands)) → StopsIn mid (get_or commands i d) pc → MeetsUnbuilt (at_rest [] s) commands pc
 meets_unbuilt {s = s} commands i default pc lt c d =
     let command : Command = get_or commands i default in
     let is : command ≡ get_or commands i command = same_at commands i default command lt in
@@ -117,6 +121,7 @@ meets_unbuilt {s = s} commands i default pc lt c d =
       is_cut = d.is_cut;
       journal = c.made ++ d.made;
       follows = follows_push (take i commands) d.cut c.made d.made c.fits d.fits;
-      legal = legal-append (at_rest s) c.made d.made c.legal (rw (← c.reached) d.legal);
+      legal = legal-append (at_rest [] s) c.made d.made c.legal (rw (← c.reached) d.legal);
+      built = built-append (at_rest [] s) c.made d.made c.built (rw (← c.reached) d.built);
       meets = rw (end_of-append, ← c.reached) d.meets;
     }

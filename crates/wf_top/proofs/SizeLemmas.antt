@@ -1,5 +1,5 @@
 -- A plain image and one hart take ten frames.
-use Rattle.std.proofs.Common.{◌≡◌, ℕ, List, [], ◌∷◌, length, refl, sym, subst, arith, Option, Some, None}
+use Rattle.std.proofs.Common.{◌≡◌, ℕ, List, [], ◌∷◌, length, refl, sym, subst, ap, arith, Option, Some, None}
 use Rattle.wf_fetch.specs.Held.{HoldsBytes}
 use Rattle.std.specs.List.{AllByRecursion}
 use Rattle.wf_top.specs.declared.script.Command.{Command}
@@ -17,14 +17,14 @@ use Rattle.wf_top.proofs.StartLemmas.{boot_fresh}
 -- the machine is at rest at the start
 boot_rests : (image : ImageValue) (limits : LimitsValue) → IsOrdered (boot_of image 1 limits) → IsResting (boot_of image 1 limits)
 unfolding boot_harts
-boot_rests image limits ordered = record { no_one = refl; no_try = (refl, tt); single = record { alone = refl; ordered = ordered }; free = boot_fresh image 1 }
+boot_rests image limits ordered = record { no_one = refl; no_try = (refl, tt); ordered = ordered; free = boot_fresh image 1 }
 
 pub start_rests : (image : ImageValue) (limits : LimitsValue) (flat : FlatState) → flat ≡ boot_of image 1 limits → IsOrdered flat → IsResting flat
 start_rests image limits flat e ordered = subst IsResting (sym e) (boot_rests image limits (subst IsOrdered e ordered))
 
-pub one_hart : (image : ImageValue) (limits : LimitsValue) → length (boot_of image 1 limits).harts ≡ 1
+pub one_hart : (image : ImageValue) (limits : LimitsValue) (flat : FlatState) → flat ≡ boot_of image 1 limits → length flat.harts ≡ 1
 unfolding boot_harts
-one_hart image limits = refl
+one_hart image limits flat e = ap (λ (s : FlatState). length s.harts) e
 
 -- a plain script has hart 0 alone
 pub plain_there : (script : List Command) → AllByRecursion IsPlain script → AllByRecursion (IsThere 1) script

@@ -7,9 +7,9 @@ use Rattle.wf_flat.specs.declared.state.Stage.TheVariants.{Here}
 use Rattle.wf_flat.specs.State.{PageState}
 use Rattle.wf_flat.specs.Lists.{sorted_by}
 use Rattle.wf_flat.specs.Boot.{boot_pages, fresh_page, stacks_of, stack_of, numbered_from, boot_harts}
-use Rattle.wf_laws.specs.Laws.{IsOwn}
+use Rattle.wf_next.specs.Determined.{IsOwn}
 use Rattle.wf_top.specs.Running.{start_of}
-use Rattle.wf_top.proofs.AloneLemmas.{IsAlone}
+use Rattle.wf_top.proofs.AloneLemmas.{RunsAlone, lone_start}
 use Rattle.wf_flat.proofs.ListLemmas.{all_append}
 use Rattle.wf_flat.proofs.SortLemmas.{all_sorted}
 
@@ -37,12 +37,12 @@ boot_fresh image harts =
     (all_append IsFresh (sorted_by (λ page. page.number) (map fresh_page image.pages)) (stacks_of harts) (all_sorted IsFresh (λ (page : PageState). page.number) (map fresh_page image.pages) (all_fresh image.pages)) (stacks_fresh harts))
 
 fresh_own : (page : PageState) → IsFresh page → IsOwn 0 page
-fresh_own page h = ((λ e. cc), inl h.1)
+fresh_own page h = (h.0, inl h.1)
 
 all_own : (pages : List PageState) → AllByRecursion IsFresh pages → AllByRecursion (IsOwn 0) pages
 all_own [] all = tt
 all_own (page ∷ pages) all = (fresh_own page all.0, all_own pages all.1)
 
-pub start_alone : (image : ImageValue) → IsAlone (start_of image).flat
+pub start_alone : (image : ImageValue) → RunsAlone (start_of image)
 unfolding boot_harts
-start_alone image = record { one = refl; still = (refl, tt); own = all_own (boot_pages image 1) (boot_fresh image 1); inside = inl refl }
+start_alone image = lone_start (start_of image).flat _ [] refl refl refl (all_own (boot_pages image 1) (boot_fresh image 1)) refl

@@ -8,17 +8,12 @@ use Rattle.wf_status.specs.declared.status.Status.TheVariants.{Done, Image, Shel
 use Rattle.wf_status.specs.declared.status.LimitKind.TheVariants.{File, Frames}
 use Rattle.wf_status.specs.declared.status.Unbuilt.TheVariants.{Script, Step}
 use Rattle.wf_fetch.specs.Held.{IsTooLong, HoldsBytes, max_file}
-use Rattle.wf_fetch.specs.Loaded.{image_fault, loaded}
+use Rattle.wf_fetch.specs.Loaded.{HoldsImage, image_fault, loaded}
 use Rattle.wf_top.specs.declared.script.Command.{Command}
 use Rattle.wf_top.specs.Follows.{MeetsUnbuilt}
 use Rattle.wf_top.specs.Words.{run_words}
 use Rattle.wf_top.specs.PlainScript.{IsScript, IsScriptFault}
 use Rattle.wf_top.specs.Running.{IsRun, frames_of, most_frames, start_of}
-
--- an image is held
-pub record HoldsImage (held : Option (List ℕ)) : Type 0 where
-  pub image : ImageValue
-  pub is : HoldsBytes held (λ bytes. loaded bytes ≡ Some image)
 
 -- an image and a plain script are held, with P
 pub record HoldsBoth (image_file script_file : Option (List ℕ))

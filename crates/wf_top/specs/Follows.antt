@@ -1,9 +1,9 @@
 -- How a journal follows a script: one block of entries for each command, in order.
 use Rattle.std.specs.Prelude.{◌≡◌, ◌<◌, ◌++◌, ℕ, List, [], ◌∷◌, None}
 use Rattle.wf_flat.specs.declared.event.Entry.{Entry}
-use Rattle.wf_flat.specs.Legal.{Moment, IsLegal, end_of}
+use Rattle.wf_legal.specs.Legal.{Moment, IsLegal, end_of}
 use Rattle.wf_flat.specs.Follows.{AreUnits, Splits}
-use Rattle.wf_flat.specs.Unbuilt.{IsUnbuilt}
+use Rattle.wf_legal.specs.Built.{IsBuilt, IsUnbuilt}
 use Rattle.wf_top.specs.declared.script.Command.{Command}
 use Rattle.wf_top.specs.declared.script.Command.TheVariants.{Step}
 
@@ -26,8 +26,8 @@ pub record MeetsUnbuiltAt (m : Moment) (hart pc : ℕ) : Type 0 where
   pub no_one : m.flat.inside ≡ None
   pub unbuilt : IsUnbuilt m.flat hart pc
 
--- A legal journal follows the script up to a unit of one of its commands, and what that unit is to
--- do is not built: the hart stands at this pc.
+-- A legal journal that meets nothing unbuilt follows the script up to a unit of one of its
+-- commands, and what that unit is to do is not built: the hart stands at this pc.
 pub record MeetsUnbuilt (start : Moment) (script : List Command) (pc : ℕ) : Type 0 where
   pub front : List Command
   pub command : Command
@@ -39,4 +39,5 @@ pub record MeetsUnbuilt (start : Moment) (script : List Command) (pc : ℕ) : Ty
   pub journal : List Entry
   pub follows : Follows (front ++ cut ∷ []) journal
   pub legal : IsLegal start journal
+  pub built : IsBuilt start journal
   pub meets : MeetsUnbuiltAt (end_of start journal) hart pc

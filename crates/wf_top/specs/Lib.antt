@@ -6,6 +6,6 @@ pub mod Following
 pub mod Running
 pub mod Answers
 pub mod Assembling
+pub mod Checked
 pub mod Laws
 pub mod Fetching
-pub mod Putting

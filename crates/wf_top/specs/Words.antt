@@ -20,3 +20,11 @@ abbrev pub asm_words : List (List ℕ) → Option (List ℕ)
 asm_words (command ∷ source ∷ []) =
     if bytes_eq command (codes "asm") && not (begins_with_dash source) then Some source else None
 asm_words words = None
+
+-- the names of the image and of the journal, where the words are those of `check IMAGE JOURNAL`
+abbrev pub check_words : List (List ℕ) → Option (List ℕ × List ℕ)
+check_words (command ∷ image ∷ journal ∷ []) =
+    if bytes_eq command (codes "check")
+    && (not (begins_with_dash image) && not (begins_with_dash journal))
+    then Some (image, journal) else None
+check_words words = None

@@ -5,9 +5,9 @@ ghost use Rattle.wf_status.specs.declared.status.Status.{Status};
 ghost use Rattle.wf_top.specs.Answers.{IsFault};
 ghost use Rattle.wf_top.specs.Assembling.{PutsFile, PutsFileFront, SourceCallsFor};
 
-use crate::output::put_all;
 use std::alloc::Global;
 use wf_outside::{Shelf, Sink};
+use wf_put::put_all;
 use wf_source::fetch_file;
 use wf_status::Status;
 

@@ -1,7 +1,7 @@
 //! The commands of a script, one after another.
-ghost use Rattle.std.specs.Prelude.{◌≡◌, ◌<◌, ℕ, OnOk, Err, length};
+ghost use Rattle.std.specs.Prelude.{◌≡◌, ◌<◌, ℕ, [], OnOk, Err, length};
 ghost use Rattle.std.specs.List.{AllByRecursion};
-ghost use Rattle.wf_flat.specs.Legal.{at_rest};
+ghost use Rattle.wf_legal.specs.Legal.{at_rest};
 ghost use Rattle.wf_flat.specs.Follows.{AreUnits};
 ghost use Rattle.wf_step.specs.Stepping.{IsResting, Continues};
 ghost use Rattle.wf_top.specs.Follows.{IsBlock, Follows, MeetsUnbuilt};
@@ -54,7 +54,7 @@ pub fn follow(
     ensures ok { OnOk result
         (Continues flat.old journal.old.items flat.new journal.new.items (Follows script.now)) }
     ensures unbuilt { (pc : ℕ) → result ≡ Err (StepFault.Unbuilt pc)
-        → MeetsUnbuilt (at_rest flat.old) script.now pc }
+        → MeetsUnbuilt (at_rest [] flat.old) script.now pc }
     ensures harts { length flat.new.harts ≡ length flat.old.harts }
 {
     for command in script {

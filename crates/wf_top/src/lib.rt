@@ -2,10 +2,10 @@
 #![tactic(auto)]
 
 mod assembling;
+mod checking;
 mod following;
 mod input;
 mod laws;
-mod output;
 mod running;
 mod script;
 mod words;

@@ -2,25 +2,30 @@
 ghost use Rattle.std.specs.Prelude.{◌≡◌, ◌≢◌, ◌↔◌, ◌⊎◌, ◌≤◌, ℕ, List, IfOk, IfErr, IfSome, OnOk, Some, None, Err};
 ghost use Rattle.wf_outside.specs.Files.{HasRisen, first_bytes};
 ghost use Rattle.wf_status.specs.declared.status.Status.{Status};
-ghost use Rattle.wf_top.specs.Words.{asm_words, run_words};
+ghost use Rattle.wf_fetch.specs.Loaded.{HoldsImage};
+ghost use Rattle.wf_top.specs.Words.{asm_words, check_words, run_words};
 ghost use Rattle.wf_top.specs.PlainScript.{ArePlain};
 ghost use Rattle.wf_top.specs.Running.{IsRun, frames_of, most_frames};
 ghost use Rattle.wf_top.specs.Fetching.{IsRunStatus};
-ghost use Rattle.wf_top.specs.Answers.{HoldsImage, CallsFor, IfRun, IsFault, PutsRun, PutsFront};
+ghost use Rattle.wf_top.specs.Answers.{CallsFor, IfRun, IsFault, PutsRun, PutsFront};
+ghost use Rattle.wf_check.specs.Checking.{CheckCallsFor};
+ghost use Rattle.wf_top.specs.Checked.{IfCheck, PutsRight, PutsRightFront};
 ghost use Rattle.wf_top.specs.Assembling.{IfAsm, PutsFile, PutsFileFront, SourceCallsFor};
 
 use crate::assembling::put_assembled;
+use crate::checking::put_checked;
 use crate::following::follow;
 use crate::input::fetch_script;
 use crate::laws::runs_are_determined;
-use crate::output::put_all;
 use crate::script::Command;
-use crate::words::{name_of_source, names_of_run};
+use crate::words::{name_of_source, names_of_check, names_of_run};
 use std::alloc::Global;
+use wf_check::checks_are_determined;
 use wf_fetch::fetch_image;
 use wf_flat::{BootFault, boot};
 use wf_journal::report;
 use wf_outside::{Image, Limits, MOST_BIRTHS, MOST_WRITES, Memory, Shelf, Sink, Text};
+use wf_put::put_all;
 use wf_status::{LimitKind, Status, Unbuilt};
 use wf_step::StepFault;
 
@@ -110,13 +115,15 @@ fn run<S: Shelf, K: Sink>(
 }
 
 /// Runs a command, whose words these are, on the files of the shelf, and puts its output into the
-/// sink. `run IMAGE SCRIPT`: one hart runs the script, a plain one, on the image, an ELF executable,
-/// and the report is put. `asm SOURCE`: the source is assembled, and the ELF executable that it
-/// means is put.
+/// sink. `run IMAGE SCRIPT`: one hart runs the script, a plain one, on the image, an ELF
+/// executable, and the report is put. `asm SOURCE`: the source is assembled, and the ELF executable
+/// that it means is put. `check IMAGE JOURNAL`: the journal, a report of a run, is checked against
+/// the image, and `ok N` is put where all of its N entries are right.
 pub fn top<S: Shelf, K: Sink>(alloc: Global, words: &[Text], shelf: &mut S, sink: &mut K) -> Status
     // The words are those of no command.
     ensures words { result ≡ Status.Words
-        ↔ (run_words words.now ≡ None) × (asm_words words.now ≡ None) }
+        ↔ (run_words words.now ≡ None) × (asm_words words.now ≡ None)
+        × (check_words words.now ≡ None) }
 
     // A read of a needed name failed: of the image's, or of the script's where there is an image.
     // Where the shelf tells nothing of what it holds, both are needed.
@@ -204,13 +211,65 @@ pub fn top<S: Shelf, K: Sink>(alloc: Global, words: &[Text], shelf: &mut S, sink
         (λ source. (K.got sink.new ≡ K.got sink.old)
         ⊎ PutsFileFront source (K.got sink.old) (K.got sink.new)) }
 
+    // Of a check: a read of a needed name failed, of the image's, or of the journal's where there
+    // is an image. Where the shelf tells nothing of what it holds, both are needed.
+    ensures check_shelf { result ≡ Status.Shelf
+        → IfSome (check_words words.now)
+        (λ names. HasRisen (S.faults shelf.old names.0) (S.faults shelf.new names.0)
+        ⊎ HasRisen (S.faults shelf.old names.1) (S.faults shelf.new names.1)) }
+    ensures check_needed { result ≡ Status.Shelf
+        → IfSome (check_words words.now)
+        (λ names. IfSome (S.holds shelf.old)
+        (λ files. HasRisen (S.faults shelf.old names.0) (S.faults shelf.new names.0)
+        ⊎ (HoldsImage (first_bytes names.0 files)
+        × HasRisen (S.faults shelf.old names.1) (S.faults shelf.new names.1)))) }
+
+    // What was put is how many entries the journal has; the machine allows each of them from the
+    // start of the image, and the final lines are those of its end.
+    ensures checked { result ≡ Status.Done
+        → IfCheck words.now (S.holds shelf.old)
+        (λ image journal. PutsRight image journal (K.got sink.old) (K.got sink.new)) }
+
+    // What is answered stands in the image and the journal, or is a fault; and what they call for
+    // is answered, but for a fault.
+    ensures check_cause { IfCheck words.now (S.holds shelf.old)
+        (λ image journal. IsFault result ⊎ CheckCallsFor image journal result) }
+    ensures check_answer { IfCheck words.now (S.holds shelf.old)
+        (λ image journal. (status : Status) → CheckCallsFor image journal status
+        → (result ≡ status) ⊎ IsFault result) }
+
+    // Where the journal is right and no count of faults rose, the answer is Done or Memory.
+    ensures check_complete { IfSome (check_words words.now)
+        (λ names. IfSome (S.holds shelf.old)
+        (λ files. CheckCallsFor (first_bytes names.0 files) (first_bytes names.1 files) Status.Done
+        → ¬ HasRisen (S.faults shelf.old names.0) (S.faults shelf.new names.0)
+        → ¬ HasRisen (S.faults shelf.old names.1) (S.faults shelf.new names.1)
+        → ¬ HasRisen (K.faults sink.old) (K.faults sink.new)
+        → (result ≡ Status.Done) ⊎ (result ≡ Status.Memory))) }
+
+    // Where the answer is Sink or Memory, a front of the line at most was put.
+    ensures check_front { result ≡ Status.Sink
+        → IfCheck words.now (S.holds shelf.old)
+        (λ image journal. PutsRightFront image journal (K.got sink.old) (K.got sink.new)) }
+    ensures check_front_or_none { result ≡ Status.Memory
+        → IfCheck words.now (S.holds shelf.old)
+        (λ image journal. (K.got sink.new ≡ K.got sink.old)
+        ⊎ PutsRightFront image journal (K.got sink.old) (K.got sink.new)) }
+
     // What the shelf holds stays, and no count falls.
     ensures holds { S.holds shelf.new ≡ S.holds shelf.old }
     ensures counts { (other : List ℕ) → S.faults shelf.old other ≤ S.faults shelf.new other }
 {
     runs_are_determined();
+    checks_are_determined();
     if let Some((image_name, script_name)) = names_of_run(words) {
         return match run(alloc, image_name, script_name, shelf, sink) {
+            Ok(()) => Status::Done,
+            Err(status) => status,
+        };
+    }
+    if let Some((image_name, journal_name)) = names_of_check(words) {
+        return match put_checked(alloc, image_name, journal_name, shelf, sink) {
             Ok(()) => Status::Done,
             Err(status) => status,
         };

@@ -1,6 +1,6 @@
 //! The words of the command line.
 ghost use Rattle.std.specs.Prelude.{◌≡◌, IfSome, Some, None};
-ghost use Rattle.wf_top.specs.Words.{asm_words, run_words, begins_with_dash};
+ghost use Rattle.wf_top.specs.Words.{asm_words, check_words, run_words, begins_with_dash};
 
 use wf_outside::Text;
 
@@ -11,8 +11,9 @@ pub fn names_of_run(words: &[Text]) -> Option<(&[u8], &[u8])>
     ensures some { IfSome result (λ names. run_words words.now ≡ Some (names.0.now, names.1.now)) }
     // Other words are those of no run.
     ensures none { result ≡ None → run_words words.now ≡ None }
-    // They are those of no assembly.
-    ensures alone { IfSome result (λ names. asm_words words.now ≡ None) }
+    // They are those of no other command.
+    ensures no_assembly { IfSome result (λ names. asm_words words.now ≡ None) }
+    ensures no_check { IfSome result (λ names. check_words words.now ≡ None) }
 {
     match words {
         [command, image, script] => {
@@ -31,21 +32,51 @@ pub fn names_of_run(words: &[Text]) -> Option<(&[u8], &[u8])>
     }
 }
 
-/// The name of the source, where the words are `asm SOURCE` and the name does not begin with a dash.
-/// The name is of bytes, and need not be UTF-8.
+/// The name of the source, where the words are `asm SOURCE` and the name does not begin with a
+/// dash. The name is of bytes, and need not be UTF-8.
 pub fn name_of_source(words: &[Text]) -> Option<&[u8]>
     // What is read is the name of a source.
     ensures some { IfSome result (λ name. asm_words words.now ≡ Some name.now) }
     // Other words are those of no assembly.
     ensures none { result ≡ None → asm_words words.now ≡ None }
-    // They are those of no run.
-    ensures alone { IfSome result (λ name. run_words words.now ≡ None) }
+    // They are those of no other command.
+    ensures no_run { IfSome result (λ name. run_words words.now ≡ None) }
+    ensures no_check { IfSome result (λ name. check_words words.now ≡ None) }
 {
     match words {
         [command, source] => {
             let source = source.bytes();
             if command.bytes() == b"asm".as_slice() && !begins_with_dash(source) {
                 Some(source)
+            } else {
+                None
+            }
+        }
+        _ => None,
+    }
+}
+
+/// The names of the image and of the journal, where the words are `check IMAGE JOURNAL` and neither
+/// name begins with a dash. The names are of bytes, and need not be UTF-8.
+pub fn names_of_check(words: &[Text]) -> Option<(&[u8], &[u8])>
+    // What is read are the names of a check.
+    ensures some { IfSome result
+        (λ names. check_words words.now ≡ Some (names.0.now, names.1.now)) }
+    // Other words are those of no check.
+    ensures none { result ≡ None → check_words words.now ≡ None }
+    // They are those of no other command.
+    ensures no_run { IfSome result (λ names. run_words words.now ≡ None) }
+    ensures no_assembly { IfSome result (λ names. asm_words words.now ≡ None) }
+{
+    match words {
+        [command, image, journal] => {
+            let image = image.bytes();
+            let journal = journal.bytes();
+            if command.bytes() == b"check".as_slice()
+                && !begins_with_dash(image)
+                && !begins_with_dash(journal)
+            {
+                Some((image, journal))
             } else {
                 None
             }

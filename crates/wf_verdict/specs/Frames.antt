@@ -1,4 +1,5 @@
--- How many frames are used where generations reach more places, and where one is born. Only proofs rest on this.
+-- How many frames are used where generations reach more places, and where one is born. Only proofs
+-- rest on this.
 use Rattle.std.specs.Prelude.{ℕ, List, [], ◌∷◌, Option, ◌+◌, ◌-◌, length, sum_by}
 use Rattle.wf_outside.specs.declared.refusal.Refusal.{Refusal}
 use Rattle.wf_outside.specs.Images.{DeltaValue, data_numbers, text_numbers}

@@ -33,7 +33,8 @@ delta_at deltas patch =
 abbrev pub free_of : FlatState → ℕ
 free_of s = s.limits.frames - used_of s - s.worn
 
--- Argument: the address is no multiple of a page, there is no page or there are too many, or they end above 2 ^ 38
+-- Argument: the address is no multiple of a page, there is no page or there are too many, or they
+-- end above 2 ^ 38
 abbrev pub bad_range : ℕ → ℕ → Option Refusal
 bad_range va pages =
     if (va % PAGE_SIZE == 0) && nat_le 1 pages && nat_le pages MOST_PAGES
@@ -60,7 +61,8 @@ leaving s pages = option_map Leaving (first_leaving s pages)
 abbrev pub more_than_free : ℕ → ℕ → Option Refusal
 more_than_free need free = if nat_lt free need then Some (NoFrames need free) else None
 
--- NoFrames: the state that is to come needs more frames than are free: those that it uses less those in use now
+-- NoFrames: the state that is to come needs more frames than are free: those that it uses less
+-- those in use now
 unfoldable pub no_frames : FlatState → FlatState → Option Refusal
 no_frames s to_come = more_than_free (used_of to_come - used_of s) (free_of s)
 
@@ -73,19 +75,20 @@ abbrev pub not_empty : FlatState → ℕ → Option Refusal
 not_empty s generation = option_map NotEmpty (lowest_in s generation)
 
 -- an address is behind the first byte, and before the end, of a jump, which has eight bytes
-abbrev pub is_inside : ℕ → Jump → Bool
-is_inside at jump = nat_lt jump.at at && nat_lt at (jump.at + 8)
+abbrev pub is_in_jump : ℕ → Jump → Bool
+is_in_jump at jump = nat_lt jump.at at && nat_lt at (jump.at + 8)
 
 -- Inside: the address is inside a jump of the generation's text
 abbrev pub inside_jump : FlatState → ℕ → ℕ → Option Refusal
 inside_jump s generation at =
-    if list_any (is_inside at) (jumps_in s generation) then Some (Inside at) else None
+    if list_any (is_in_jump at) (jumps_in s generation) then Some (Inside at) else None
 
 -- Views: as many generations were born as may be
 abbrev pub no_more_views : FlatState → Option Refusal
 no_more_views s = if nat_lt (length s.gens) MOST_GENERATIONS then None else Some Views
 
--- Lacks: the generation has the first patches of the run alone, so many, and this one's number is greater than that
+-- Lacks: the generation has the first patches of the run alone, so many, and this one's number is
+-- greater than that
 abbrev pub lacks : FlatState → ℕ → ℕ → Option Refusal
 lacks s generation patch =
     if nat_lt (patches_in s generation) patch then Some (Lacks (patches_in s generation)) else None
@@ -137,7 +140,8 @@ patch_refusals deltas s patch =
     ∷ overlap s (pages_of (delta_at deltas patch)) ∷ leaving s (pages_of (delta_at deltas patch))
     ∷ no_frames s (patched deltas s patch) ∷ []
 
--- The table: the refusals of a request, in their order. `next` is the address at which a program goes on.
+-- The table: the refusals of a request, in their order. `next` is the address at which a program
+-- goes on.
 abbrev pub refusals_of : List DeltaValue → FlatState → ℕ → Request → List (Option Refusal)
 refusals_of deltas s next (Exits code) = []
 refusals_of deltas s next (PutsByte byte) = []
@@ -155,15 +159,16 @@ refusals_of deltas s next (NoCall number) = Some (Number number) ∷ []
 abbrev pub refusal_of : List DeltaValue → FlatState → ℕ → Request → Option Refusal
 refusal_of deltas s next request = first_of (refusals_of deltas s next request)
 
--- What the state of a run keeps, so that its numbers fit: its tables stand in order, and no more frames are used,
--- generations born and harts there than may be.
+-- What the state of a run keeps, so that its numbers fit: its tables stand in order, and no more
+-- frames are used, generations born and harts there than may be.
 pub record IsWithinLimits (s : FlatState) : Type 0 where
   pub ordered : IsOrdered s
   pub frames : used_of s ≤ MOST_FRAMES
   pub generations : length s.gens ≤ MOST_GENERATIONS
   pub harts : length s.harts ≤ 256
 
--- What a patch of the run keeps: no page is there twice, and there are no more pages than addresses have.
+-- What a patch of the run keeps: no page is there twice, and there are no more pages than addresses
+-- have.
 pub record IsPatch (delta : DeltaValue) : Type 0 where
   pub distinct : IsDistinct nat_eq (text_numbers delta.private ++ data_numbers delta.shared)
   pub few_private : length delta.private ≤ ADDRESS_PAGES

@@ -18,7 +18,8 @@ use Rattle.wf_verdict.specs.Verdict.{delta_at, pages_from, refusal_of}
 abbrev pub map_of : ℕ → PageRun → Todo
 map_of patch run = Exactly (Map run.first run.count run.write (Some patch))
 
--- the patch of a number, which is this: the runs of its shared pages are mapped, and a generation is born of the newest
+-- the patch of a number, which is this: the runs of its shared pages are mapped, and a generation
+-- is born of the newest
 abbrev pub delta_work : FlatState → ℕ → DeltaValue → List Todo
 delta_work s patch delta =
     map (map_of patch) (runs_of delta.shared)

@@ -9,10 +9,10 @@ ghost use Rattle.wf_verdict.specs.Frames.{born_frames, frames_reaching, no_frame
 ghost use Rattle.wf_verdict.specs.Verdict as verdict;
 ghost use Rattle.wf_verdict.specs.Verdict.{IsPatch, IsWithinLimits};
 
-use crate::places::{add_places, born_places, numbers_of_data, patched_places};
+use crate::places::{numbers_of_data, patched_places};
 use std::alloc::Global;
-use wf_effects::newest;
-use wf_flat::{Flat, Gen};
+use wf_effects::{born_places, newest};
+use wf_flat::{Flat, Gen, add_places};
 use wf_outside::{Delta, Memory, Page, Refusal};
 
 // The nodes of a view that reaches these places.
@@ -94,8 +94,8 @@ fn more_than_free(need: u64, free: u64) -> Option<Refusal>
     }
 }
 
-/// NoFrames, where a map of these pages needs more frames than are free. It takes one pass over the places that
-/// generations reach.
+/// NoFrames, where a map of these pages needs more frames than are free. It takes one pass over the
+/// places that generations reach.
 #[tactic(auto, unfolding(crate::specs::Frames::no_frames_mapping))]
 pub fn map_without_frames(
     alloc: Global,
@@ -132,8 +132,8 @@ fn text_of(flat: &Flat, generation: u32) -> &[Page]
     &version.text
 }
 
-/// NoFrames, where a clone of the generation needs more frames than are free. It takes one pass over the
-/// generation's text, over the pages of data, and over the places that generations reach.
+/// NoFrames, where a clone of the generation needs more frames than are free. It takes one pass
+/// over the generation's text, over the pages of data, and over the places that generations reach.
 #[tactic(auto, using(crate::proofs::FrameLemmas::clone_frames, crate::proofs::FrameLemmas::text_few, crate::proofs::FrameLemmas::pages_few))]
 pub fn clone_without_frames(
     alloc: Global,
@@ -164,8 +164,9 @@ fn patched_frames(alloc: Global, flat: &Flat, text: &[Page], delta: &Delta) -> R
     Ok(text.len() as u64 + delta.private.len() as u64 + nodes)
 }
 
-/// NoFrames, where a patch of the newest generation needs more frames than are free. It takes one pass over that
-/// generation's text, over the pages of data and of the patch, and over the places that generations reach.
+/// NoFrames, where a patch of the newest generation needs more frames than are free. It takes one
+/// pass over that generation's text, over the pages of data and of the patch, and over the places
+/// that generations reach.
 #[tactic(auto, using(crate::proofs::FrameLemmas::text_few, crate::proofs::FrameLemmas::pages_few), unfolding(crate::specs::Frames::no_frames_patching))]
 pub fn patch_without_frames(
     alloc: Global,

@@ -93,17 +93,17 @@ pub fn not_empty(flat: &Flat, generation: u32) -> Option<Refusal>
 }
 
 // Whether an address is inside a jump.
-fn is_inside(jump: &Jump, at: u64) -> bool
-    ensures { result ≡ verdict.is_inside at jump.now }
+fn is_in_jump(jump: &Jump, at: u64) -> bool
+    ensures { result ≡ verdict.is_in_jump at jump.now }
 {
     jump.at < at && at - jump.at < 8
 }
 
 // Whether an address is inside one of the jumps.
 fn is_in_jumps(jumps: &[Jump], at: u64) -> bool
-    ensures { result ≡ list_any (verdict.is_inside at) jumps.now }
+    ensures { result ≡ list_any (verdict.is_in_jump at) jumps.now }
 {
-    jumps.iter().any(|jump| is_inside(jump, at))
+    jumps.iter().any(|jump| is_in_jump(jump, at))
 }
 
 /// Inside, where the address is inside a jump of the generation's text.
@@ -129,7 +129,8 @@ pub fn no_more_views(flat: &Flat) -> Option<Refusal>
     }
 }
 
-/// Lacks, where the generation has only patches of the run whose numbers are below that of the one before.
+/// Lacks, where the generation has only patches of the run whose numbers are below that of the one
+/// before.
 pub fn lacks(flat: &Flat, generation: u32, patch: u32) -> Option<Refusal>
     ensures { result ≡ verdict.lacks flat.now generation patch }
 {

@@ -5,15 +5,16 @@ ghost use Rattle.wf_verdict.specs.Requests as requests;
 use wf_calls::{CREATE, DELETE, EXIT, MAP, MIGRATE, OWN_GENERATION, PUT_BYTE, QUIESCE, UNMAP};
 use wf_flat::FlatHart;
 
-/// What is requested of the kernel: by a program, with a call, or by the kernel's own actor, for a script.
+/// What is requested of the kernel: by a program, with a call, or by the kernel's own actor, for a
+/// script.
 #[derive(Clone, Copy, Debug, PartialEq, Eq)]
 pub enum Request {
     /// To stop, with this code.
     Exits { code: u64 },
     /// To put this byte.
     PutsByte { byte: u8 },
-    /// To map pages of zeros: from this address on, so many, with this right (1 to read, 3 to read and
-    /// write).
+    /// To map pages of zeros: from this address on, so many, with this right (1 to read, 3 to read
+    /// and write).
     Maps { va: u64, pages: u64, right: u64 },
     /// To unmap pages: from this address on, so many.
     Unmaps { va: u64, pages: u64 },
@@ -68,8 +69,8 @@ pub fn request_of(own: u32, number: u64, a0: u64, a1: u64, a2: u64) -> Request
     }
 }
 
-/// What a hart requests whose instruction is an ecall: the number of the call is in a7, which is x17, and its
-/// arguments in a0 to a2, which are x10 to x12.
+/// What a hart requests whose instruction is an ecall: the number of the call is in a7, which is
+/// x17, and its arguments in a0 to a2, which are x10 to x12.
 ///
 /// RISC-V ELF psABI, "Integer Register Convention".
 pub fn requested_by(hart: &FlatHart) -> Request

@@ -123,7 +123,8 @@ pub fn clone_refusal(alloc: Global, flat: &Flat, generation: u64) -> Result<Opti
     clone_without_frames(alloc, flat, generation as u32)
 }
 
-/// What a call is refused for that moves a hart, which goes on at this address, to the newest generation.
+/// What a call is refused for that moves a hart, which goes on at this address, to the newest
+/// generation.
 pub fn quiesce_refusal(flat: &Flat, next: u64) -> Option<Refusal>
     requires { IsWithinLimits flat.now }
     ensures { result ≡ first_of (verdict.quiesce_refusals flat.now next) }
@@ -183,9 +184,9 @@ pub fn patch_refusal(
     delta_refusal(alloc, flat, patch, &deltas[patch as usize])
 }
 
-/// What a request is refused for, if it is: the first of its refusals that applies. `next` is the address at
-/// which a program goes on, and `deltas` are the run's patches. It takes one pass at most over each list that
-/// the request names or would change.
+/// What a request is refused for, if it is: the first of its refusals that applies. `next` is the
+/// address at which a program goes on, and `deltas` are the run's patches. It takes one pass at
+/// most over each list that the request names or would change.
 ///
 /// # Errors
 ///

@@ -126,7 +126,8 @@ fn migrate_done(alloc: Global, flat: &Flat, generation: u64, next: u64) -> Resul
     }
 }
 
-// What is done about a call that moves a hart, which goes on at this address, to the newest generation.
+// What is done about a call that moves a hart, which goes on at this address, to the newest
+// generation.
 fn quiesce_done(alloc: Global, flat: &Flat, next: u64) -> Result<Vec<Todo>, Memory>
     requires { IsWithinLimits flat.now }
     ensures { IfOk result (λ todo. todo.items
@@ -232,8 +233,9 @@ fn patch_done(alloc: Global, flat: &Flat, deltas: &[Delta], patch: u32) -> Resul
     }
 }
 
-/// What is done about a request, in order: it is refused for the first of its refusals that applies, or else its
-/// work is done. `next` is the address at which a program goes on, and `deltas` are the run's patches.
+/// What is done about a request, in order: it is refused for the first of its refusals that
+/// applies, or else its work is done. `next` is the address at which a program goes on, and
+/// `deltas` are the run's patches.
 ///
 /// # Errors
 ///

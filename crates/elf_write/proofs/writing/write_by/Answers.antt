@@ -13,10 +13,10 @@ returns c =
     let p = c.args.plan.now in
     let shown : c.deref.result.now ≡ c.args.module.now.symbols = search rules in
     let count = c.locals.ensures.value ∙ ap (λ (xs : List ModSymbol). length (locals xs)) shown in
-    let sections = c.sections-sections.ensures ∙ ap (λ (n : ℕ). sections_in p n) count in
-    let headers = c.in_ok-headers.ensures ∙ ap (λ (xs : List Section). flat_map section_bytes xs) sections in
-    let listed : c.deref-2.result.now ≡ c.args.module.now.symbols = search rules in
+    let sections = c.in_ok-sections.ensures ∙ ap (λ (n : ℕ). sections_in p n) count in
+    let headers = c.in_ok-headers.ensures ∙ ap (λ (xs : List Section). flat_map section_bytes xs) (c.deref-2.ensures.value ∙ sections) in
+    let listed : c.deref-4.result.now ≡ c.args.module.now.symbols = search rules in
     let symbols = c.in_ok-symbols.ensures ∙ ap (λ (xs : List ModSymbol). symbol_table xs) listed in
-    let front : c.in_ok-out.out.items ≡ front_bytes c.args.module.now.entry c.in_ok-segments.segments.items p.layout.headers = search rules in
-    let tables : c.place_tables.new.out.items ≡ with_tables p.layout c.in_ok-symbols.symbols.items c.args.names.now c.in_ok-headers.headers.items c.place_contents.new.out.items = search rules in
-    written_is p c.args.module.now _ _ _ _ _ _ _ c.in_ok-segments.ensures.value headers symbols c.requires.names front c.in_ok-place_contents.ensures tables
+    let front : c.in_ok-out.out.items ≡ front_bytes p c.args.module.now.entry c.in_ok-segments.segments.items = search rules in
+    let tables : c.place_tables.new.out.items ≡ with_tables p.layout c.in_ok-symbols.symbols.items c.args.names.now c.in_ok-section_names.section_names.items c.in_ok-headers.headers.items c.place_contents.new.out.items = search rules in
+    written_is p c.args.module.now _ _ _ _ _ _ _ _ c.in_ok-segments.ensures.value headers symbols c.requires.names c.in_ok-section_names.ensures front c.in_ok-place_contents.ensures tables

@@ -5,7 +5,7 @@ use Rattle.rv_asm.proofs.first_pass.surveyed.Given as goal
 
 abbrev pub invariant-loop-rest : goal.invariant-loop-rest
 invariant-loop-rest l = record {
-  so_far : IsSurveyedSoFar l.source l.survey l.number l.rest;
+  so_far : IsSurveyedSoFar l.form l.names l.source l.survey l.number l.rest;
   counted : AreCounted l.survey.sizes;
 }
 

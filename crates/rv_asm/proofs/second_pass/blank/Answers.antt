@@ -6,5 +6,5 @@ use Rattle.rv_asm.proofs.second_pass.blank.Goals as goal
 
 pub invariant_of-result : goal.invariant_of-result
 invariant_of-result c =
-    blank_draft c.args.survey.sizes c.args.survey.labels _ c.requires
-    (c.in_ok-symbols.ensures.ok ∙ ap (λ (labels : List LabelValue). map (symbol_of c.args.survey.sizes) labels) c.entries.ensures)
+    blank_draft c.args.form c.args.survey.sizes c.args.survey.labels _ c.requires
+    (c.in_ok-symbols.ensures.ok ∙ ap (λ (labels : List LabelValue). map (symbol_of c.args.form c.args.survey.sizes) labels) c.entries.ensures)

@@ -1,7 +1,7 @@
 use Rattle.std.proofs.Common.{◌%◌, sym}
 use Rattle.wf_flat.specs.State.{PageState}
 use Rattle.wf_outside.specs.Pages.{page_of}
-use Rattle.wf_flat.specs.Steps.{put_with}
+use Rattle.wf_flat.specs.Changes.{put_with}
 use Rattle.wf_flat.proofs.FoundLemmas.{changed_found, changed_none}
 use Rattle.wf_flat.proofs.data.put_in.Goals as goal
 

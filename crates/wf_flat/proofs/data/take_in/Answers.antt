@@ -1,6 +1,6 @@
 use Rattle.std.proofs.Common.{sym}
 use Rattle.wf_flat.specs.State.{PageState}
-use Rattle.wf_flat.specs.Steps.{taken_by}
+use Rattle.wf_flat.specs.Changes.{taken_by}
 use Rattle.wf_flat.proofs.FoundLemmas.{changed_found, changed_none}
 use Rattle.wf_flat.proofs.data.take_in.Goals as goal
 

@@ -1,6 +1,6 @@
 use Rattle.std.proofs.Common.{ap, refl}
 use Rattle.wf_flat.specs.State.{FlatState}
-use Rattle.wf_flat.specs.Steps.{looked_with}
+use Rattle.wf_flat.specs.Changes.{looked_with}
 use Rattle.wf_step.specs.Stepping.{load_at}
 use Rattle.wf_step.proofs.MakingLemmas.{look_made, look_acts, look_answers, done, held_same}
 use Rattle.wf_step.proofs.ServingLemmas.{load_kind, load_access}

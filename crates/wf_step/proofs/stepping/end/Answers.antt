@@ -1,7 +1,7 @@
-use Rattle.std.proofs.Common.{◌∙◌, ap, sym, ◌++◌, ◌∷◌, []}
+use Rattle.std.proofs.Common.{◌∙◌, ap, ◌++◌, ◌∷◌, []}
 use Rattle.rv_inst.specs.Arch.{ArchState}
 use Rattle.wf_flat.specs.declared.event.Event.TheVariants.{End}
-use Rattle.wf_step.proofs.StepLemmas.{entry, end_made, end_rests, done_held, done_next}
+use Rattle.wf_step.proofs.StepLemmas.{entry, end_made, end_harts, end_rests, done_held, done_next}
 use Rattle.wf_step.proofs.stepping.end.Goals as goal
 
 pub end-requires-clause-held : goal.end-requires-clause-held
@@ -19,5 +19,4 @@ pub returns-clause-rests : goal.returns-clause-rests
 returns-clause-rests c = end_rests c.args.flat.now c.end.new.self c.args.hart c.args.next.pc c.args.held c.args.next c.requires.acts c.requires.done c.end.ensures.state c.end.ensures.ordered
 
 pub returns-clause-harts : goal.returns-clause-harts
-returns-clause-harts c =
-    (end_rests c.args.flat.now c.end.new.self c.args.hart c.args.next.pc c.args.held c.args.next c.requires.acts c.requires.done c.end.ensures.state c.end.ensures.ordered).single.alone ∙ sym c.requires.acts.single.alone
+returns-clause-harts c = end_harts c.args.flat.now c.end.new.self c.args.hart c.args.next.pc c.args.held c.args.next c.requires.acts c.requires.done c.end.ensures.state

@@ -1,6 +1,6 @@
 use Rattle.std.proofs.Common.{List, subst, sym}
 use Rattle.wf_flat.specs.declared.event.Entry.{Entry}
-use Rattle.wf_step.specs.Stepping.{Begins}
+use Rattle.wf_step.specs.Stepping.{HasBegun}
 use Rattle.wf_step.proofs.StepLemmas.{begins, rest_acts}
 use Rattle.wf_step.proofs.CarryLemmas.{fault_ready, word_ready}
 use Rattle.wf_step.proofs.stepping.step.Goals as goal
@@ -17,4 +17,4 @@ try_word-requires-clause-ready c = word_ready c.args.flat.now c.args.hart c.in-W
 pub returns-in-Fault-clause-ok : goal.returns-in-Fault-clause-ok
 returns-in-Fault-clause-ok c =
     c.trap.ensures.made c.args.flat.now c.args.journal.now.items
-    (subst (λ (items : List Entry). Begins c.args.flat.now c.args.journal.now.items c.args.flat.now items c.args.hart) (sym c.reserve.ensures.items) (begins c.args.flat.now c.args.journal.now.items c.args.hart))
+    (subst (λ (items : List Entry). HasBegun c.args.flat.now c.args.journal.now.items c.args.flat.now items c.args.hart) (sym c.reserve.ensures.items) (begins c.args.flat.now c.args.journal.now.items c.args.hart))

@@ -1,7 +1,8 @@
-use Rattle.std.proofs.Common.{◌≡◌, subst, rules}
-use Rattle.wf_flat.specs.Unbuilt.{IsUnbuilt}
+use Rattle.std.proofs.Common.{◌≡◌, subst, sym, rules}
+use Rattle.rv_inst.specs.Arch.{ArchState}
+use Rattle.wf_legal.specs.Built.{IsUnbuilt}
 use Rattle.wf_step.proofs.StepLemmas.{begins, rest_acts}
-use Rattle.wf_step.proofs.CarryLemmas.{meets_unbuilt_word}
+use Rattle.wf_step.proofs.CarryLemmas.{meets_unbuilt_word, stands_at_built}
 use Rattle.wf_step.proofs.stepping.try_word.Goals as goal
 
 pub returns-in_default-clause-unbuilt : goal.returns-in_default-clause-unbuilt
@@ -11,6 +12,11 @@ returns-in_default-clause-unbuilt c = λ pc e.
 
 pub fetch-requires-clause-acts : goal.fetch-requires-clause-acts
 fetch-requires-clause-acts c = rest_acts c.args.flat.now c.args.hart c.requires.rests
+
+pub fetch-requires-clause-built : goal.fetch-requires-clause-built
+fetch-requires-clause-built c =
+    subst (λ (a : ArchState). IsUnbuilt c.args.flat.now c.args.hart a.pc → ⊥) (sym c.arch.view_is)
+    (stands_at_built c.args.flat.now c.args.hart c.args.word c.args.arch.now c.in-Some.action c.requires.ready c.in-Some.ensures.action)
 
 pub returns-clause-ok : goal.returns-clause-ok
 returns-clause-ok c =

@@ -1,6 +1,6 @@
 use Rattle.std.proofs.Common.{ap, None}
 use Rattle.wf_flat.specs.State.{FlatState}
-use Rattle.wf_flat.specs.Steps.{missed}
+use Rattle.wf_flat.specs.Changes.{missed}
 use Rattle.wf_step.specs.Stepping.{store_at}
 use Rattle.wf_step.proofs.StepLemmas.{acts_free}
 use Rattle.wf_step.proofs.MakingLemmas.{miss_made, miss_acts, miss_answers, done, held_same}

@@ -1,7 +1,7 @@
 use Rattle.std.proofs.Common.{◌%◌, ap, Some}
 use Rattle.wf_flat.specs.State.{FlatState}
 use Rattle.wf_outside.specs.Pages.{page_of}
-use Rattle.wf_flat.specs.Steps.{swapped_by}
+use Rattle.wf_flat.specs.Changes.{swapped_by}
 use Rattle.wf_step.specs.declared.actions.Write.TheVariants.{Swap}
 use Rattle.wf_step.specs.Stepping.{store_at}
 use Rattle.wf_step.proofs.MakingLemmas.{swap_made, wrote_acts, wrote_held, swap_answers, done}

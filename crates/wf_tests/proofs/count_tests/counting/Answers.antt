@@ -1,5 +1,5 @@
 use Rattle.std.proofs.Common.{◌<◌, arith}
-use Rattle.wf_top.proofs.SizeLemmas.{start_rests}
+use Rattle.wf_top.proofs.SizeLemmas.{one_hart, start_rests}
 use Rattle.wf_tests.proofs.count_tests.counting.Goals as goal
 
 pub invariant_of-limits : goal.invariant_of-limits
@@ -11,4 +11,4 @@ pub returns-clause-rests : goal.returns-clause-rests
 returns-clause-rests c = start_rests c.in_ok-image.image _ c.in_ok-boot.field-0 c.in_ok-boot.ensures.ok c.in_ok-boot.ensures.ordered
 
 pub returns-clause-one : goal.returns-clause-one
-returns-clause-one c = (start_rests c.in_ok-image.image _ c.in_ok-boot.field-0 c.in_ok-boot.ensures.ok c.in_ok-boot.ensures.ordered).single.alone
+returns-clause-one c = one_hart c.in_ok-image.image _ c.in_ok-boot.field-0 c.in_ok-boot.ensures.ok

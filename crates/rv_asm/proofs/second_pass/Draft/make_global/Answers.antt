@@ -1,13 +1,15 @@
 use Rattle.std.proofs.Common.{sym, ap, ◌∙◌, Err, length, refl}
 use Rattle.std.proofs.lemmas.Result.{err_from_is_err_and}
 use Rattle.rv_asm.specs.SecondPass.{DraftValue}
-use Rattle.rv_asm.proofs.DoneLemmas.{done_unknown, draft_stays, globl_seen}
+use Rattle.asm_lines.specs.declared.statement.Use.TheVariants as use_
+use Rattle.rv_asm.specs.SecondPass.{home_of}
+use Rattle.rv_asm.proofs.DoneLemmas.{done_unknown, settled_nothing, draft_stays, globl_seen}
 use Rattle.rv_asm.proofs.second_pass.Draft.make_global.Goals as goal
 
 pub returns-in_err-place : goal.returns-in_err-place
 returns-in_err-place c =
     let p = err_from_is_err_and c.from_residual.result c.from_residual.ensures.1 in
-    rw (p.1 ∙ ap Err p.2, c.in_err-place.ensures.none) (done_unknown c.args.number _ c.args.name.now c.args.self.now c.in_err-place.ensures.unknown)
+    rw (p.1 ∙ ap Err p.2, c.in_err-place.ensures.none) (done_unknown c.args.number use_.Globl c.args.name.now c.args.self.now (settled_nothing c.args.self.now.form c.args.self.now.section use_.Globl (home_of c.args.name.now c.args.self.now.symbols) refl) c.in_err-place.ensures.unknown)
 
 pub invariant_of-self : goal.invariant_of-self
 invariant_of-self c =

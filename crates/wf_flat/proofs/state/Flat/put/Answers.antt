@@ -1,6 +1,6 @@
 use Rattle.std.proofs.Common.{◌%◌, refl}
 use Rattle.wf_outside.specs.Pages.{page_of}
-use Rattle.wf_flat.specs.Steps.{put_with}
+use Rattle.wf_flat.specs.Changes.{put_with}
 use Rattle.wf_flat.proofs.ChangeLemmas.{change_ordered, change_numbers, change_found}
 use Rattle.wf_flat.proofs.state.Flat.put.Goals as goal
 

@@ -1,0 +1,4 @@
+pub mod Among
+pub mod Maps
+pub mod Names
+pub mod Telling

@@ -1,0 +1,5 @@
+pub mod SettledLemmas
+pub mod SameLemmas
+pub mod NextLemmas
+pub mod RequestLemmas
+pub mod RefusingLemmas

@@ -1,5 +1,0 @@
-use Rattle.wf_laws.proofs.FollowLemmas.{follows}
-use Rattle.wf_laws.proofs.laws.conditionals_follow.Goals as goal
-
-pub returns : goal.returns
-returns c = follows

@@ -1,5 +1,0 @@
-use Rattle.wf_laws.proofs.FetchLemmas.{fetches}
-use Rattle.wf_laws.proofs.laws.fetches_are_text.Goals as goal
-
-pub returns : goal.returns
-returns c = fetches

@@ -1,5 +1,0 @@
-use Rattle.wf_laws.proofs.LatestLemmas.{latest}
-use Rattle.wf_laws.proofs.laws.looks_are_latest.Goals as goal
-
-pub returns : goal.returns
-returns c = latest (λ word inst. (c.words_are_rows.ensures.row word inst).0)

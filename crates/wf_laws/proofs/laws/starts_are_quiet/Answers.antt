@@ -1,5 +1,0 @@
-use Rattle.wf_laws.proofs.StartLemmas.{quiet}
-use Rattle.wf_laws.proofs.laws.starts_are_quiet.Goals as goal
-
-pub returns : goal.returns
-returns c = quiet

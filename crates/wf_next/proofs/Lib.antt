@@ -1,0 +1,4 @@
+pub mod QuietLemmas
+pub mod ActLemmas
+pub mod NextLemmas
+pub mod DeterminedLemmas

@@ -1,0 +1,2 @@
+pub mod AllowsLemmas
+pub mod IllegalLemmas

@@ -1,0 +1,5 @@
+use Rattle.wf_sound_laws.proofs.SoundLemmas.{looks}
+use Rattle.wf_sound_laws.proofs.laws.sound_looks_are_latest.Goals as goal
+
+pub returns : goal.returns
+returns c = looks (λ word inst. (c.words_are_rows.ensures.row word inst).0) c.entries_keep_sound.ensures
