@@ -9,6 +9,7 @@ mod changing;
 
 use anyhow::{Result, bail};
 use changing::{change_named, joined, lines_of, make};
+use elf_write::Form;
 use std::alloc::Global;
 use std::rt::{Env, Files};
 use wf_check::fetch_checked;
@@ -39,7 +40,8 @@ fn image_of<R: Env + Files + AllocGlobal>(rt: &R, name: &[u8]) -> Result<Vec<u8>
     let mut source = Vec::new(rt.alloc());
     source.extend_from_slice(name)?;
     source.extend_from_slice(b".s")?;
-    match fetch_file(rt.alloc(), &mut FsShelf::new(rt, rt.alloc()), &source) {
+    let mut shelf = FsShelf::new(rt, rt.alloc());
+    match fetch_file(rt.alloc(), &mut shelf, &source, Form::Exec) {
         Ok(file) => Ok(file),
         Err(_) => bail!("a source can't be assembled"),
     }

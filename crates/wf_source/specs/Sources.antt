@@ -1,6 +1,6 @@
 -- What the assembler's source leads to.
 use Rattle.std.specs.Prelude.{◌≡◌, ℕ, List, Option, Result, Ok, Err}
-use Rattle.elf_write.specs.declared.module.Form.TheVariants.{Exec}
+use Rattle.elf_write.specs.declared.module.Form.{Form}
 use Rattle.elf_write.specs.Modules.{ModuleValue}
 use Rattle.elf_write.specs.Written.{written}
 use Rattle.rv_asm.specs.declared.fault.AsmFault.{AsmFault}
@@ -27,14 +27,14 @@ status_of (Ok means) = Done
 status_of (Err (fault.At line rule)) = Source (rule_of rule) line
 status_of (Err fault.Memory) = Memory
 
--- these are the bytes of the file of the module that a source means
-pub record IsFile (source file : List ℕ) : Type 0 where
+-- these are the bytes of the file of the module of this form that a source means
+pub record IsFile (form : Form) (source file : List ℕ) : Type 0 where
   pub means : ModuleValue
-  pub is : assembled Exec source ≡ Ok means
+  pub is : assembled form source ≡ Ok means
   pub file_is : file ≡ written means
 
--- a source is held, and with P the file of the module that it means
-pub record HoldsFile (held : Option (List ℕ)) (P : List ℕ → Type 0) : Type 0 where
+-- a source is held, and with P the file of the module of this form that it means
+pub record HoldsFile (form : Form) (held : Option (List ℕ)) (P : List ℕ → Type 0) : Type 0 where
   pub means : ModuleValue
-  pub is : HoldsBytes held (λ bytes. assembled Exec bytes ≡ Ok means)
+  pub is : HoldsBytes held (λ bytes. assembled form bytes ≡ Ok means)
   pub fits : P (written means)

@@ -24,12 +24,12 @@ fn rule_of(rule: AsmRule) -> SourceRule
     }
 }
 
-// The file of the module that a source means.
-fn file_of(alloc: Global, source: &[u8]) -> Result<Vec<u8>, Status>
-    ensures file { IfOk result (λ file. IsFile source.now file.items) }
-    ensures cause { IfErr result (IsFileStatus source.now) }
+// The file of the module of this form that a source means.
+fn file_of(alloc: Global, source: &[u8], form: Form) -> Result<Vec<u8>, Status>
+    ensures file { IfOk result (λ file. IsFile form source.now file.items) }
+    ensures cause { IfErr result (IsFileStatus form source.now) }
 {
-    let module = match assemble(alloc, source, Form::Exec) {
+    let module = match assemble(alloc, source, form) {
         Ok(module) => module,
         Err(AsmFault::At { line, rule }) => return Err(Status::Source {
             rule: rule_of(rule),
@@ -43,15 +43,21 @@ fn file_of(alloc: Global, source: &[u8]) -> Result<Vec<u8>, Status>
     }
 }
 
-/// The file of the module that a source means, an ELF executable; or why there is none: Shelf, the
-/// limit of the source's bytes, its first fault with its line, and Memory.
-pub fn fetch_file<S: Shelf>(alloc: Global, shelf: &mut S, name: &[u8]) -> Result<Vec<u8>, Status>
+/// The file of the module of this form that a source means, an ELF executable or a relocatable
+/// file; or why there is none: Shelf, the limit of the source's bytes, its first fault with its
+/// line, and Memory.
+pub fn fetch_file<S: Shelf>(
+    alloc: Global,
+    shelf: &mut S,
+    name: &[u8],
+    form: Form,
+) -> Result<Vec<u8>, Status>
     ensures found { IfOk result
         (λ file. IfSome (S.holds shelf.old)
-        (λ files. HoldsFile (first_bytes name.now files) (λ bytes. bytes ≡ file.items))) }
+        (λ files. HoldsFile form (first_bytes name.now files) (λ bytes. bytes ≡ file.items))) }
     ensures cause { IfErr result
         (λ status. IfSome (S.holds shelf.old)
-        (λ files. IsSourceStatus (first_bytes name.now files) status)) }
+        (λ files. IsSourceStatus form (first_bytes name.now files) status)) }
     ensures kind { IfErr result MayFetchFile }
     ensures shelf { result ≡ Err Status.Shelf
         → HasRisen (S.faults shelf.old name.now) (S.faults shelf.new name.now) }
@@ -59,5 +65,5 @@ pub fn fetch_file<S: Shelf>(alloc: Global, shelf: &mut S, name: &[u8]) -> Result
     ensures counts { (other : List ℕ) → S.faults shelf.old other ≤ S.faults shelf.new other }
 {
     let source = fetch(shelf, name)?;
-    file_of(alloc, &source)
+    file_of(alloc, &source, form)
 }

@@ -21,6 +21,8 @@ mod image_tests;
 #[cfg(test)]
 mod images;
 #[cfg(test)]
+mod object_tests;
+#[cfg(test)]
 mod page_tests;
 #[cfg(test)]
 mod program_tests;

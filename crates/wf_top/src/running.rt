@@ -18,7 +18,7 @@ use crate::following::follow;
 use crate::input::fetch_script;
 use crate::laws::runs_are_determined;
 use crate::script::Command;
-use crate::words::{name_of_source, names_of_check, names_of_run};
+use crate::words::{Assembly, assembly_of, names_of_check, names_of_run};
 use std::alloc::Global;
 use wf_check::checks_are_determined;
 use wf_fetch::fetch_image;
@@ -117,8 +117,9 @@ fn run<S: Shelf, K: Sink>(
 /// Runs a command, whose words these are, on the files of the shelf, and puts its output into the
 /// sink. `run IMAGE SCRIPT`: one hart runs the script, a plain one, on the image, an ELF
 /// executable, and the report is put. `asm SOURCE`: the source is assembled, and the ELF executable
-/// that it means is put. `check IMAGE JOURNAL`: the journal, a report of a run, is checked against
-/// the image, and `ok N` is put where all of its N entries are right.
+/// that it means is put; `asm SOURCE --object` puts the relocatable file. `check IMAGE JOURNAL`:
+/// the journal, a report of a run, is checked against the image, and `ok N` is put where all of its
+/// N entries are right.
 pub fn top<S: Shelf, K: Sink>(alloc: Global, words: &[Text], shelf: &mut S, sink: &mut K) -> Status
     // The words are those of no command.
     ensures words { result ≡ Status.Words
@@ -179,37 +180,37 @@ pub fn top<S: Shelf, K: Sink>(alloc: Global, words: &[Text], shelf: &mut S, sink
     // Of an assembly: a read of the source failed.
     ensures source { result ≡ Status.Shelf
         → IfSome (asm_words words.now)
-        (λ name. HasRisen (S.faults shelf.old name) (S.faults shelf.new name)) }
+        (λ asked. HasRisen (S.faults shelf.old asked.0) (S.faults shelf.new asked.0)) }
 
-    // What was put is the file of the module that the source means.
+    // What was put is the file of the module of that form that the source means.
     ensures assembled { result ≡ Status.Done
         → IfAsm words.now (S.holds shelf.old)
-        (λ source. PutsFile source (K.got sink.old) (K.got sink.new)) }
+        (λ form source. PutsFile form source (K.got sink.old) (K.got sink.new)) }
 
     // What is answered stands in the source, or is a fault; and what the source calls for is
     // answered, but for a fault.
     ensures asm_cause { IfAsm words.now (S.holds shelf.old)
-        (λ source. IsFault result ⊎ SourceCallsFor source result) }
+        (λ form source. IsFault result ⊎ SourceCallsFor form source result) }
     ensures asm_answer { IfAsm words.now (S.holds shelf.old)
-        (λ source. (status : Status) → SourceCallsFor source status
+        (λ form source. (status : Status) → SourceCallsFor form source status
         → (result ≡ status) ⊎ IsFault result) }
 
     // Where the source has no fault and no count of faults rose, the answer is Done or Memory.
     ensures asm_complete { IfSome (asm_words words.now)
-        (λ name. IfSome (S.holds shelf.old)
-        (λ files. SourceCallsFor (first_bytes name files) Status.Done
-        → ¬ HasRisen (S.faults shelf.old name) (S.faults shelf.new name)
+        (λ asked. IfSome (S.holds shelf.old)
+        (λ files. SourceCallsFor asked.1 (first_bytes asked.0 files) Status.Done
+        → ¬ HasRisen (S.faults shelf.old asked.0) (S.faults shelf.new asked.0)
         → ¬ HasRisen (K.faults sink.old) (K.faults sink.new)
         → (result ≡ Status.Done) ⊎ (result ≡ Status.Memory))) }
 
     // Where the answer is Sink or Memory, a front of the file at most was put.
     ensures asm_front { result ≡ Status.Sink
         → IfAsm words.now (S.holds shelf.old)
-        (λ source. PutsFileFront source (K.got sink.old) (K.got sink.new)) }
+        (λ form source. PutsFileFront form source (K.got sink.old) (K.got sink.new)) }
     ensures asm_front_or_none { result ≡ Status.Memory
         → IfAsm words.now (S.holds shelf.old)
-        (λ source. (K.got sink.new ≡ K.got sink.old)
-        ⊎ PutsFileFront source (K.got sink.old) (K.got sink.new)) }
+        (λ form source. (K.got sink.new ≡ K.got sink.old)
+        ⊎ PutsFileFront form source (K.got sink.old) (K.got sink.new)) }
 
     // Of a check: a read of a needed name failed, of the image's, or of the journal's where there
     // is an image. Where the shelf tells nothing of what it holds, both are needed.
@@ -274,10 +275,10 @@ pub fn top<S: Shelf, K: Sink>(alloc: Global, words: &[Text], shelf: &mut S, sink
             Err(status) => status,
         };
     }
-    let Some(name) = name_of_source(words) else {
+    let Some(Assembly { name, form }) = assembly_of(words) else {
         return Status::Words;
     };
-    match put_assembled(alloc, name, shelf, sink) {
+    match put_assembled(alloc, name, form, shelf, sink) {
         Ok(()) => Status::Done,
         Err(status) => status,
     }
