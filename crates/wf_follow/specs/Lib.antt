@@ -5,3 +5,4 @@ pub mod Ticks
 pub mod Follows
 pub mod Unbuilt
 pub mod Runs
+pub mod Laws

@@ -1,0 +1,12 @@
+pub mod BuiltLemmas
+pub mod RequestLemmas
+pub mod CalmLemmas
+pub mod HartLemmas
+pub mod PageLemmas
+pub mod UnitLemmas
+pub mod StartLemmas
+pub mod EntryLemmas
+pub mod AlongLemmas
+pub mod WayLemmas
+pub mod CutLemmas
+pub mod FollowLemmas
