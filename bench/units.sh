@@ -4,12 +4,14 @@
 # branch back, without end; memory, a store on the stack, a load of it, a sum and a jump back, without end;
 # atomic, a load-reserved, a store-conditional and an atomic sum on the stack, and a jump back, without end; or
 # pages10 and pages900, a store and a load in each of so many pages of .bss, one after another, without end.
+# HARTS harts (1) take turns, all on the same program: with 1 hart the script is `step h0 UNITS`, else `run UNITS`.
 # It wants the program that `rt ci` left in crates/wfpatch/out, which assembles them, and GNU time. Run it at the top
-# of the repository: bench/units.sh NAME UNITS [RUNS]
+# of the repository: bench/units.sh NAME UNITS [RUNS [HARTS]]
 set -eu
 name=$1
 units=$2
 runs=${3:-20}
+harts=${4:-1}
 program=$PWD/crates/wfpatch/out/wfpatch
 folder=$(mktemp -d)
 trap 'rm -rf "$folder"' EXIT
@@ -46,14 +48,21 @@ pages900) pages 900 ;;
     ;;
 esac >prog.s
 "$program" asm prog.s >prog.elf
-printf 'step h0 %s\n' "$units" >steps.txt
-"$program" run prog.elf steps.txt >report
+if [ "$harts" = 1 ]; then
+    printf 'step h0 %s\n' "$units"
+else
+    printf 'run %s\n' "$units"
+fi >steps.txt
+run() {
+    "$@" "$program" run prog.elf steps.txt --harts "$harts" --frames 4096
+}
+run >report
 start=$(date +%s%N)
 i=0
 while [ "$i" -lt "$runs" ]; do
-    "$program" run prog.elf steps.txt >report
+    run >report
     i=$((i + 1))
 done
 end=$(date +%s%N)
-peak=$(/usr/bin/time -f %M "$program" run prog.elf steps.txt 2>&1 >report)
-echo "$name, units $units: $(((end - start) / runs / 1000)) microseconds a run over $runs runs, report $(wc -c <report) bytes, peak $peak KiB"
+peak=$(run /usr/bin/time -f %M 2>&1 >report)
+echo "$name, harts $harts, units $units: $(((end - start) / runs / 1000)) microseconds a run over $runs runs, report $(wc -c <report) bytes, peak $peak KiB"

@@ -3,7 +3,7 @@ use Rattle.std.specs.Prelude.{ℕ, List, ◌++◌}
 use Rattle.std.specs.List.{flat_map}
 use Rattle.wf_journal.specs.Headers.{header_lines, joined}
 use Rattle.wf_journal.specs.Journals.{JournalValue}
-use Rattle.wf_journal.specs.Reports.{entry_line}
+use Rattle.wf_journal.specs.Lines.{entry_line}
 
 -- the first lines, the entries and the final lines of a journal
 abbrev pub text_of : JournalValue → List ℕ

@@ -40,7 +40,12 @@ fn text_of(alloc: Global, journal: &Journal) -> Result<Vec<u8>, Memory>
     ensures { IfOk result (λ text. text.items ≡ text_of journal.now) }
 {
     let mut out = Vec::new(alloc);
-    push_header(&mut out, journal.harts, journal.frames, &journal.patches)?;
+    push_header(
+        &mut out,
+        u64::from(journal.harts),
+        journal.frames,
+        &journal.patches,
+    )?;
     push_entries(&mut out, &journal.entries)?;
     push_lines(&mut out, &journal.end)?;
     Ok(out)

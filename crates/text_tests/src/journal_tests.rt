@@ -351,7 +351,12 @@ fn whole_journals(rt: HostRuntime) -> Result<(), Fail> {
     assert_eq!(rt; journal.end.len(), 2);
     assert_eq!(rt; journal.end[0].bytes(), b"= x".as_slice());
     let mut out = Vec::new(rt.alloc());
-    push_header(&mut out, journal.harts, journal.frames, &journal.patches)?;
+    push_header(
+        &mut out,
+        u64::from(journal.harts),
+        journal.frames,
+        &journal.patches,
+    )?;
     push_lines(&mut out, &journal.end)?;
     let wanted = "wfpatch run 1\nharts 64\nframes 65536\npatch 0 a\npatch 1 b/c\n= x\n= \n";
     assert_eq!(rt; str::from_utf8(&out)?, wanted);

@@ -7,9 +7,9 @@ use Rattle.std.specs.Prelude.{IsSomeAnd}
 use Rattle.wf_journal.specs.Journals.{JournalValue, journal_of}
 use Rattle.wf_status.specs.declared.entries.EntryRule.{EntryRule}
 use Rattle.wf_status.specs.declared.rules.ImageRule.{ImageRule}
-use Rattle.wf_status.specs.declared.status.LimitKind.TheVariants.{File, Frames}
+use Rattle.wf_status.specs.declared.status.LimitKind.TheVariants.{File, Units, Patches, Frames}
 use Rattle.wf_status.specs.declared.status.Status.{Status}
-use Rattle.wf_status.specs.declared.status.Status.TheVariants.{Done, Words, Image, Source, Journal, Shelf, Sink, Memory, Limit, Illegal, Unbuilt}
+use Rattle.wf_status.specs.declared.status.Status.TheVariants.{Done, Words, Image, Script, Source, Journal, Shelf, Sink, Memory, Limit, Illegal, Unbuilt}
 use Rattle.wf_status.specs.declared.status.Unbuilt.TheVariants as unbuilt
 use Rattle.wf_fetch.specs.Held.{HoldsBytes, HoldsWithin, IsLongerThan, max_file, max_journal}
 use Rattle.wf_fetch.specs.Loaded.{HoldsImage, image_fault, loaded}
@@ -47,10 +47,13 @@ journal_cases image journal (Unbuilt (unbuilt.Script line)) p = absurd p
 journal_cases image journal (Unbuilt (unbuilt.Step pc)) p = absurd p
 journal_cases image journal (Limit Frames number most) p = inr (inl (record { number = number; most = most; is = refl; lacks = p }))
 journal_cases image journal (Limit File number most) p = absurd p
+journal_cases image journal (Limit Units number most) p = absurd p
+journal_cases image journal (Limit Patches number most) p = absurd p
 journal_cases image journal (Illegal index rule) p = inr (inr (inl (record { index = index; rule = rule; is = refl; starts = p.0; wrong = p.1 })))
 journal_cases image journal Done p = inr (inr (inr (refl, p.0, p.1)))
 journal_cases image journal Words p = absurd p
 journal_cases image journal (Image rule at) p = absurd p
+journal_cases image journal (Script line column) p = absurd p
 journal_cases image journal (Source rule line) p = absurd p
 journal_cases image journal (Journal line) p = absurd p
 journal_cases image journal Shelf p = absurd p
@@ -156,6 +159,7 @@ bytes_cases image bytes (Illegal index rule) p = inr p
 bytes_cases image bytes Done p = inr p
 bytes_cases image bytes Words p = inr p
 bytes_cases image bytes (Image rule at) p = inr p
+bytes_cases image bytes (Script line column) p = inr p
 bytes_cases image bytes (Source rule line) p = inr p
 bytes_cases image bytes Shelf p = inr p
 bytes_cases image bytes Sink p = inr p
@@ -242,6 +246,8 @@ CheckCases image journal answer = IsFileAnswer image journal answer ⊎ (IsImage
 
 check_cases : (image journal : Option (List ℕ)) (answer : Status) → CheckCallsFor image journal answer → CheckCases image journal answer
 check_cases image journal (Limit File number most) p = inl (record { number = number; most = most; is = refl; long = p })
+check_cases image journal (Limit Units number most) p = inr (inr p)
+check_cases image journal (Limit Patches number most) p = inr (inr p)
 check_cases image journal (Limit Frames number most) p = inr (inr p)
 check_cases image journal (Image rule at) p = inr (inl (record { rule = rule; at = at; is = refl; fault = p }))
 check_cases image journal (Journal line) p = inr (inr p)
@@ -249,6 +255,7 @@ check_cases image journal (Unbuilt what) p = inr (inr p)
 check_cases image journal (Illegal index rule) p = inr (inr p)
 check_cases image journal Done p = inr (inr p)
 check_cases image journal Words p = inr (inr p)
+check_cases image journal (Script line column) p = inr (inr p)
 check_cases image journal (Source rule line) p = inr (inr p)
 check_cases image journal Shelf p = inr (inr p)
 check_cases image journal Sink p = inr (inr p)

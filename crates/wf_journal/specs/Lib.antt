@@ -5,4 +5,4 @@ pub mod Fields
 pub mod Events
 pub mod Journals
 pub mod Laws
-pub mod Reports
+pub mod Lines

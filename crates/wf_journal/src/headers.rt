@@ -40,8 +40,9 @@ fn push_patches(out: &mut Vec<u8>, patches: &[Text]) -> Result<(), Memory>
     Ok(())
 }
 
-// The first lines of a report of so many harts.
-pub(crate) fn push_first_lines(
+/// Appends the first lines of a report: the sizes, and the names of the script's patches by their
+/// numbers.
+pub fn push_header(
     out: &mut Vec<u8>,
     harts: u64,
     frames: u32,
@@ -52,20 +53,6 @@ pub(crate) fn push_first_lines(
 {
     push_sizes(out, harts, frames)?;
     push_patches(out, patches)
-}
-
-/// Appends the first lines of a report: the sizes, and the names of the script's patches by their
-/// numbers.
-pub fn push_header(
-    out: &mut Vec<u8>,
-    harts: u8,
-    frames: u32,
-    patches: &[Text],
-) -> Result<(), Memory>
-    ensures { OnOk result
-        (out.new.items ≡ out.old.items ++ joined (header_lines harts frames patches.now)) }
-{
-    push_first_lines(out, u64::from(harts), frames, patches)
 }
 
 /// Appends lines, each with its newline.

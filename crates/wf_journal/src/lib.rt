@@ -18,4 +18,4 @@ pub use headers::{push_header, push_lines};
 pub use journal::{Journal, JournalFault};
 pub use laws::entries_are_read_back;
 pub use reading::read_journal;
-pub use reporting::{push_entries, report};
+pub use reporting::push_entries;

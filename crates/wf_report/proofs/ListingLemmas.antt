@@ -4,7 +4,7 @@ use Rattle.wf_flat.specs.State.{FlatState}
 use Rattle.std.proofs.lemmas.List.{drop_all}
 use Rattle.std.specs.List.{flat_map}
 use Rattle.wf_flat.specs.declared.event.Entry.{Entry}
-use Rattle.wf_journal.specs.Reports.{entry_line}
+use Rattle.wf_journal.specs.Lines.{entry_line}
 use Rattle.wf_report.specs.Listings.{ListingValue, doubleword_line, mem_lines}
 use Rattle.wf_report.specs.Reports.{body_from}
 

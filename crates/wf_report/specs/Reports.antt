@@ -6,7 +6,7 @@ use Rattle.wf_flat.specs.declared.event.Entry.{Entry}
 use Rattle.wf_flat.specs.State.{FlatState}
 use Rattle.wf_journal.specs.Finals.{final_lines}
 use Rattle.wf_journal.specs.Headers.{header_lines, joined}
-use Rattle.wf_journal.specs.Reports.{entry_line}
+use Rattle.wf_journal.specs.Lines.{entry_line}
 use Rattle.wf_report.specs.Listings.{ListingValue}
 
 -- the lines of entries, of which so many stand before them, each listing behind the entries that

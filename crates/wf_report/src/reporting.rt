@@ -1,7 +1,7 @@
 //! Whole reports.
-ghost use Rattle.std.specs.Prelude.{◌≡◌, ◌≤◌, ◌++◌, ◌-◌, IfOk, OnOk, drop, length, take};
+ghost use Rattle.std.specs.Prelude.{◌≡◌, ◌++◌, ◌-◌, IfOk, OnOk, drop, take};
 ghost use Rattle.std.specs.List.{flat_map};
-ghost use Rattle.wf_journal.specs.Reports.{entry_line};
+ghost use Rattle.wf_journal.specs.Lines.{entry_line};
 ghost use Rattle.wf_report.specs.Reports.{body_from, report_bytes};
 
 use crate::Listing;
@@ -47,7 +47,7 @@ fn push_body(out: &mut Vec<u8>, entries: &[Entry], listings: &[Listing]) -> Resu
     push_entries(out, rest)
 }
 
-/// The report of a run of at most 64 harts: the first lines with the names of its patches, its
+/// The report of a run: the first lines with the names of its patches, its
 /// entries and listings, and the final lines of the state at its end.
 pub fn report(
     alloc: Global,
@@ -56,14 +56,13 @@ pub fn report(
     listings: &[Listing],
     flat: &Flat,
 ) -> Result<Vec<u8>, Memory>
-    requires few { length flat.now.harts ≤ 64 }
     ensures { IfOk result
         (λ text. text.items ≡ report_bytes patches.now entries.now listings.now flat.now) }
 {
     let mut out = Vec::new(alloc);
     push_header(
         &mut out,
-        flat.harts.len() as u8,
+        flat.harts.len() as u64,
         flat.limits.frames,
         patches,
     )?;

@@ -2,9 +2,9 @@
 use Rattle.std.specs.Prelude.{◌++◌, ℕ, List, [], false, codes}
 use Rattle.std.specs.Fmt.{decimal, digits}
 use Rattle.wf_status.specs.declared.status.Status.{Status}
-use Rattle.wf_status.specs.declared.status.Status.TheVariants.{Done, Words, Image, Source, Journal, Shelf, Sink, Memory, Limit, Illegal, Unbuilt}
+use Rattle.wf_status.specs.declared.status.Status.TheVariants.{Done, Words, Image, Script, Source, Journal, Shelf, Sink, Memory, Limit, Illegal, Unbuilt}
 use Rattle.wf_status.specs.declared.status.LimitKind.{LimitKind}
-use Rattle.wf_status.specs.declared.status.LimitKind.TheVariants.{File, Frames}
+use Rattle.wf_status.specs.declared.status.LimitKind.TheVariants.{File, Units, Patches, Frames}
 use Rattle.wf_status.specs.declared.status.Unbuilt.{Unbuilt as UnbuiltPart}
 use Rattle.wf_status.specs.declared.status.Unbuilt.TheVariants as unbuilt
 use Rattle.wf_status.specs.declared.entries.EntryRule.{EntryRule}
@@ -19,6 +19,7 @@ abbrev pub code_of : Status → ℕ
 code_of Done = 0
 code_of Words = 1
 code_of (Image rule at) = 2
+code_of (Script line column) = 4
 code_of (Source rule line) = 4
 code_of (Journal line) = 4
 code_of Shelf = 5
@@ -31,6 +32,8 @@ code_of (Unbuilt what) = 10
 -- the word for what has a limit
 abbrev pub limit_text : LimitKind → List ℕ
 limit_text File = codes "file"
+limit_text Units = codes "units"
+limit_text Patches = codes "patches"
 limit_text Frames = codes "frames"
 
 -- the words for what is not built: addresses are hexadecimal, lines decimal
@@ -99,6 +102,8 @@ abbrev pub line_of : Status → List ℕ
 line_of Done = []
 line_of Words = codes "wfpatch: words"
 line_of (Image rule at) = codes "wfpatch: image " ++ rule_text rule ++ codes " at " ++ decimal at
+line_of (Script line column) =
+    codes "wfpatch: script line " ++ decimal line ++ codes " column " ++ decimal column
 line_of (Source rule line) =
     codes "wfpatch: source line " ++ decimal line ++ codes " " ++ source_text rule
 line_of (Journal line) = codes "wfpatch: journal line " ++ decimal line

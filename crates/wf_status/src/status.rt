@@ -12,6 +12,10 @@ use wf_outside::{Memory, Text};
 pub enum LimitKind {
     /// The bytes of a file.
     File,
+    /// The units of a script.
+    Units,
+    /// The patches of a script.
+    Patches,
     /// The frames that the start of a run uses.
     Frames,
 }
@@ -19,9 +23,9 @@ pub enum LimitKind {
 /// What is not built yet.
 #[derive(Clone, Copy, Debug, PartialEq, Eq)]
 pub enum Unbuilt {
-    /// A script that is not plain, from this line on.
+    /// The command in this line of the script, counted from 1.
     Script { line: u64 },
-    /// A journal to be checked.
+    /// The patches of a journal to be checked.
     Journal,
     /// The instruction at this address, or what it asks for.
     Step { pc: u64 },
@@ -38,6 +42,12 @@ pub enum Status {
     Image {
         rule: ImageRule,
         at: u64,
+    },
+    /// The first wrong word of the script stands in this line, from this column on; where a word is
+    /// missing, the column is one past the line's end. Both count from 1, columns by bytes.
+    Script {
+        line: u64,
+        column: u64,
     },
     /// The assembler's source breaks this rule first, in this line, counted from 1.
     Source {
@@ -73,8 +83,9 @@ pub enum Status {
 }
 
 impl Status {
-    /// The exit status: 0 for `Done`, 1 for `Words`, 2 for `Image`, 4 for `Source` and `Journal`, 5
-    /// for `Shelf`, 6 for `Sink`, 7 for `Memory`, 8 for `Limit`, 9 for `Illegal`, 10 for `Unbuilt`.
+    /// The exit status: 0 for `Done`, 1 for `Words`, 2 for `Image`, 4 for `Script`, `Source` and
+    /// `Journal`, 5 for `Shelf`, 6 for `Sink`, 7 for `Memory`, 8 for `Limit`, 9 for `Illegal`, 10 for
+    /// `Unbuilt`.
     pub fn code(&self) -> u8
         ensures { result ≡ code_of self.now }
     {
@@ -82,6 +93,7 @@ impl Status {
             Status::Done => 0,
             Status::Words => 1,
             Status::Image { .. } => 2,
+            Status::Script { .. } => 4,
             Status::Source { .. } => 4,
             Status::Journal { .. } => 4,
             Status::Shelf => 5,
@@ -112,6 +124,8 @@ impl fmt::Display for LimitKind {
     fn fmt<W: fmt::Write>(&self, f: &mut fmt::Formatter<W>) -> fmt::Result {
         match self {
             LimitKind::File => write!(f, "file"),
+            LimitKind::Units => write!(f, "units"),
+            LimitKind::Patches => write!(f, "patches"),
             LimitKind::Frames => write!(f, "frames"),
         }
     }
@@ -143,6 +157,9 @@ impl fmt::Display for Status {
             Status::Done => Ok(()),
             Status::Words => write!(f, "wfpatch: words"),
             Status::Image { rule, at } => write!(f, "wfpatch: image {rule} at {at}"),
+            Status::Script { line, column } => {
+                write!(f, "wfpatch: script line {line} column {column}")
+            }
             Status::Source { rule, line } => write!(f, "wfpatch: source line {line} {rule}"),
             Status::Journal { line } => write!(f, "wfpatch: journal line {line}"),
             Status::Shelf => write!(f, "wfpatch: shelf"),

@@ -1,15 +1,14 @@
 //! What is done at the last count of writes, which is far below that of runs of the program.
-ghost use Rattle.std.specs.Prelude.{◌≡◌, ◌<◌, ◌≤◌, IfOk, length};
+ghost use Rattle.std.specs.Prelude.{◌<◌, ◌≤◌, length};
 ghost use Rattle.wf_outside.specs.declared.sizes.TheConstants.{PAGE_WORDS};
-ghost use Rattle.wf_step.specs.Stepping.{IsResting};
+ghost use Rattle.wf_script.specs.Commands.{IsCount};
 
 use crate::images::small_image;
 use std::alloc::Global;
 use std::test::Fail;
-use wf_flat::{Flat, boot};
-use wf_journal::report;
+use wf_driver::Machine;
 use wf_outside::Limits;
-use wf_step::step;
+use wf_script::Command;
 
 // Nine words, two in each: addi x5, x0, -1; ld x4, -8(x2); sd x5, -8(x2); ld x4, -8(x2); sb x0,
 // -8(x2); lbu x4, -7(x2); lui x3, 0xfffff; add x3, x3, x2; ld x4, -8(x3).
@@ -196,43 +195,21 @@ h0 end 10020
 = word 3e0000fff8 3e0001fff0
 ";
 
-// The state of one hart at the start of these words, where counts of writes go so far.
-fn counting(alloc: Global, words: &[u64], last_writes: u64) -> Result<Flat, Fail>
+// The report of so many units of one hart on these words, where counts of writes go so far.
+fn counted(alloc: Global, words: &[u64], last_writes: u64, n: u64) -> Result<Vec<u8>, Fail>
     requires first { 1 ≤ last_writes }
     requires low { last_writes < 1000 }
     requires few { length words.now ≤ PAGE_WORDS }
-    ensures rests { IfOk result (λ flat. IsResting flat) }
-    ensures one { IfOk result (λ flat. length flat.harts ≡ 1) }
+    requires some { IsCount 1000000 n }
 {
-    let image = small_image(alloc, words)?;
     let limits = Limits {
         frames: 1024,
         last_writes,
         last_birth: 1000,
     };
-    Ok(boot(alloc, &image, 1, limits)?)
-}
-
-// The report of so many units of its hart, from this state.
-fn report_of(alloc: Global, flat: &mut Flat, n: u64) -> Result<Vec<u8>, Fail>
-    requires rests { IsResting flat.old }
-    requires one { length flat.old.harts ≡ 1 }
-{
-    let mut journal = Vec::new(alloc);
-    for _ in 0..n {
-        step(flat, &mut journal, 0)?;
-    }
-    Ok(report(alloc, &journal, flat)?)
-}
-
-// The report of so many units of these words, where counts of writes go so far.
-fn counted(alloc: Global, words: &[u64], last_writes: u64, n: u64) -> Result<Vec<u8>, Fail>
-    requires first { 1 ≤ last_writes }
-    requires low { last_writes < 1000 }
-    requires few { length words.now ≤ PAGE_WORDS }
-{
-    let mut flat = counting(alloc, words, last_writes)?;
-    report_of(alloc, &mut flat, n)
+    let mut machine = Machine::new(alloc, &small_image(alloc, words)?, 1, limits)?;
+    machine.obey(alloc, Command::Step { hart: 0, n })?;
+    Ok(machine.report(alloc, &[])?)
 }
 
 #[test]

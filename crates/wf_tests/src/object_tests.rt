@@ -63,8 +63,14 @@ fn words_of_assemblies(rt: HostRuntime) -> Result<(), Fail> {
     let alloc = rt.alloc();
     for (line, status, kind) in [
         (["asm", "a"].as_slice(), Status::Done, EXECUTABLE),
+        (["asm", "--", "a"].as_slice(), Status::Done, EXECUTABLE),
         (
             ["asm", "a", "--object"].as_slice(),
+            Status::Done,
+            RELOCATABLE,
+        ),
+        (
+            ["asm", "--object", "a"].as_slice(),
             Status::Done,
             RELOCATABLE,
         ),
@@ -83,7 +89,6 @@ fn words_of_no_object(rt: HostRuntime) -> Result<(), Fail> {
     let alloc = rt.alloc();
     for line in [
         ["asm", "--object"].as_slice(),
-        ["asm", "--object", "a"].as_slice(),
         ["asm", "-a", "--object"].as_slice(),
         ["asm", "a", "b", "--object"].as_slice(),
         ["asm", "a", "--object", "b"].as_slice(),
@@ -95,7 +100,7 @@ fn words_of_no_object(rt: HostRuntime) -> Result<(), Fail> {
         ["asm", "a", "-object"].as_slice(),
         ["asm", "a", "object"].as_slice(),
         ["asm", "a", ""].as_slice(),
-        ["asm", "a", "--"].as_slice(),
+        ["asm", "--", "a", "--object"].as_slice(),
         ["run", "a", "--object"].as_slice(),
         ["run", "a", "b", "--object"].as_slice(),
         ["check", "a", "b", "--object"].as_slice(),

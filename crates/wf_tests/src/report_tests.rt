@@ -3,8 +3,8 @@ use crate::images::small_image;
 use std::alloc::Global;
 use std::test::Fail;
 use wf_flat::{Actor, Entry, Event, Flat, FlatPage, Gen, Life, Stage, WaitFor, boot};
-use wf_journal::report;
 use wf_outside::{Limits, Refusal};
+use wf_report::report;
 
 // The state of one hart at its start.
 fn booted(alloc: Global) -> Result<Flat, Fail> {
@@ -75,7 +75,7 @@ frames 1024
 #[test]
 fn reports_a_start(rt: HostRuntime) -> Result<(), Fail> {
     let flat = booted(rt.alloc())?;
-    let bytes = report(rt.alloc(), &[], &flat)?;
+    let bytes = report(rt.alloc(), &[], &[], &[], &flat)?;
     assert_eq!(rt; str::from_utf8(&bytes)?, START);
     Ok(())
 }
@@ -93,7 +93,7 @@ fn reports_an_end(rt: HostRuntime) -> Result<(), Fail> {
         value: 0xF0,
     };
     flat.gens.push(deleted(rt.alloc()))?;
-    let bytes = report(rt.alloc(), &[], &flat)?;
+    let bytes = report(rt.alloc(), &[], &[], &[], &flat)?;
     let want = "wfpatch run 1
 harts 1
 frames 1024
@@ -161,7 +161,7 @@ fn reports_tries(rt: HostRuntime) -> Result<(), Fail> {
         }),
         by_hart(Event::Out { byte: 10 }),
     ];
-    let bytes = report(rt.alloc(), &journal, &booted(rt.alloc())?)?;
+    let bytes = report(rt.alloc(), &[], &journal, &[], &booted(rt.alloc())?)?;
     let want = "wfpatch run 1
 harts 1
 frames 1024
@@ -229,7 +229,7 @@ fn reports_calls(rt: HostRuntime) -> Result<(), Fail> {
         by_kernel(Event::Move { generation: 11 }),
         by_kernel(Event::Dead { generation: 11 }),
     ];
-    let bytes = report(rt.alloc(), &journal, &booted(rt.alloc())?)?;
+    let bytes = report(rt.alloc(), &[], &journal, &[], &booted(rt.alloc())?)?;
     let want = "wfpatch run 1
 harts 1
 frames 1024
@@ -267,7 +267,7 @@ fn reports_refusals(rt: HostRuntime) -> Result<(), Fail> {
         refused(Refusal::Number { n: 10 }),
         refused(Refusal::Lacks { n: 10 }),
     ];
-    let bytes = report(rt.alloc(), &journal, &booted(rt.alloc())?)?;
+    let bytes = report(rt.alloc(), &[], &journal, &[], &booted(rt.alloc())?)?;
     let want = "wfpatch run 1
 harts 1
 frames 1024

@@ -27,7 +27,12 @@ fn runs(rt: HostRuntime) -> Result<(), Fail> {
     let (status, got) = run(alloc, &image, "")?;
     assert_eq!(rt; status, Status::Done);
     assert_eq!(rt; str::from_utf8(&got)?, START);
-    for (script, idles) in [("step h0 3\n", 0), ("step h0 3\nstep h0 1\n", 1)] {
+    for (script, idles) in [
+        ("step h0 3\n", 0),
+        ("step h0 3\nstep h0 1\n", 1),
+        ("# three units\n\n  step  h0 3 \n", 0),
+        ("run 4", 1),
+    ] {
         let (status, got) = run(alloc, &image, script)?;
         let want = report_with(alloc, idles)?;
         assert_eq!(rt; status, Status::Done, "{script}");
@@ -40,26 +45,84 @@ fn runs(rt: HostRuntime) -> Result<(), Fail> {
 fn broken_scripts(rt: HostRuntime) -> Result<(), Fail> {
     let alloc = rt.alloc();
     let image = plain_image(alloc, &TEXT)?;
+    for (script, line, column) in [
+        ("step h1 1\n", 1, 6),
+        ("walk h0 1\n", 1, 1),
+        ("step h0 01\n", 1, 9),
+        ("step h0 1\r\n", 1, 9),
+        ("step h0\n", 1, 8),
+        ("step h0 1 x\n", 1, 11),
+        ("step h0 1\n\n# x\n  run 1 1\n", 4, 9),
+        ("mem 0x11000 4097\n", 1, 13),
+        ("tick k 1\nwalk\n", 2, 1),
+    ] {
+        let (status, got) = run(alloc, &image, script)?;
+        assert_eq!(rt; status, Status::Script { line, column }, "{script}");
+        assert!(rt; got.is_empty(), "{script}");
+    }
+    Ok(())
+}
+
+#[test]
+fn unbuilt_lines(rt: HostRuntime) -> Result<(), Fail> {
+    let alloc = rt.alloc();
+    let image = plain_image(alloc, &TEXT)?;
     for (script, line) in [
-        ("step h1 1\n", 1),
-        ("walk h0 1\n", 1),
-        ("step h0 0\n", 1),
-        ("step h0 01\n", 1),
-        ("step h0 +1\n", 1),
-        ("step h0 1000001\n", 1),
-        ("step  h0 1\n", 1),
-        ("step h0 1 \n", 1),
-        (" step h0 1\n", 1),
-        ("step h0 1", 1),
-        ("step h0 1\r\n", 1),
-        ("step h0 1\n\n", 2),
-        ("step h0 3\n# x\n", 2),
-        ("step h0 1000000\nstep h0 1\n", 2),
-        ("step h0 999999\nstep h0 2\n", 2),
+        ("tick h0 1\n", 1),
+        ("tick k 1\n", 1),
+        ("patch p\n", 1),
+        ("begin patch p\n", 1),
+        ("create 0\n", 1),
+        ("delete 0\n", 1),
+        ("tables 0\n", 1),
+        ("# x\nstep h0 1\n\n  tables 0", 4),
+        ("regs h0\nmem 0x11000 1\nrun 1\ncreate 0\ntick k 1\n", 4),
     ] {
         let (status, got) = run(alloc, &image, script)?;
         assert_eq!(rt; status, unbuilt(Unbuilt::Script { line }), "{script}");
         assert!(rt; got.is_empty(), "{script}");
+    }
+    Ok(())
+}
+
+#[test]
+fn long_scripts(rt: HostRuntime) -> Result<(), Fail> {
+    let alloc = rt.alloc();
+    let image = plain_image(alloc, &TEXT)?;
+    for (script, number) in [
+        ("step h0 1000000\nstep h0 1\n", 1_000_001),
+        ("run 999999\nregs h0\nmem 0x11000 1\n", 1_000_001),
+        ("tick k 1000000\ntables 0\n", 1_001_000),
+    ] {
+        let (status, got) = run(alloc, &image, script)?;
+        let limit = Status::Limit {
+            what: LimitKind::Units,
+            number,
+            most: 1_000_000,
+        };
+        assert_eq!(rt; status, limit, "{script}");
+        assert!(rt; got.is_empty(), "{script}");
+    }
+    Ok(())
+}
+
+#[test]
+fn many_patches(rt: HostRuntime) -> Result<(), Fail> {
+    let alloc = rt.alloc();
+    let image = plain_image(alloc, &TEXT)?;
+    let limit = Status::Limit {
+        what: LimitKind::Patches,
+        number: 65,
+        most: 64,
+    };
+    for (n, status) in [(64, unbuilt(Unbuilt::Script { line: 1 })), (65, limit)] {
+        let mut script = Vec::new(alloc);
+        for _ in 0..n {
+            script.extend_from_slice(b"patch p\n")?;
+        }
+        let (answered, got) = run(alloc, &image, str::from_utf8(&script)?)?;
+        assert_eq!(rt; answered, status, "{n}");
+        assert!(rt; got.is_empty(), "{n}");
     }
     Ok(())
 }
@@ -110,7 +173,7 @@ fn unbuilt_steps(rt: HostRuntime) -> Result<(), Fail> {
 fn other_words(rt: HostRuntime) -> Result<(), Fail> {
     let alloc = rt.alloc();
     let image = plain_image(alloc, &TEXT)?;
-    let lines: [&[&str]; 9] = [
+    let lines: [&[&str]; 12] = [
         &[],
         &["run"],
         &["run", "a"],
@@ -118,8 +181,11 @@ fn other_words(rt: HostRuntime) -> Result<(), Fail> {
         &["walk", "a", "b"],
         &["run", "-a", "b"],
         &["run", "a", "-b"],
-        &["run", "-a", "-b"],
         &["Run", "a", "b"],
+        &["run", "a", "b", "--harts", "0"],
+        &["run", "a", "b", "--frames", "65537"],
+        &["run", "a", "b", "--harts", "1", "--harts", "1"],
+        &["check", "a", "b", "--harts", "1"],
     ];
     for line in lines {
         let files = files_of(alloc, &image, b"step h0 3\n")?;

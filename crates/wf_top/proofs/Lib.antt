@@ -1,10 +1,2 @@
-pub mod LineLemmas
-pub mod ScriptLemmas
-pub mod RunLemmas
-pub mod CalmLemmas
-pub mod AloneLemmas
-pub mod StartLemmas
-pub mod DeterminedLemmas
-pub mod AnswerLemmas
-pub mod SizeLemmas
+pub mod LawLemmas
 pub mod TopLemmas

@@ -1,26 +1,24 @@
--- What holds of all files.
-use Rattle.std.specs.Prelude.{◌≡◌, ℕ, List, Option}
-use Rattle.wf_outside.specs.Images.{ImageValue}
+-- What holds of all commands and files.
+use Rattle.std.specs.Prelude.{ℕ, List, Option, ◌≡◌}
 use Rattle.wf_status.specs.declared.status.Status.{Status}
-use Rattle.wf_top.specs.declared.script.Command.{Command}
-use Rattle.wf_top.specs.Answers.{CallsFor}
-use Rattle.wf_top.specs.Follows.{MeetsUnbuilt}
-use Rattle.wf_top.specs.Running.{IsRun, start_of}
+use Rattle.wf_status.specs.declared.status.Status.TheVariants.{Done}
+use Rattle.wf_words.specs.declared.command.Command.{Command}
+use Rattle.wf_top.specs.Commands.{CallsFor, IsOutput}
 
--- files call for at most one answer
+-- files call for at most one answer to a command
 abbrev pub AnswersAreOne : Type 0
 AnswersAreOne =
-    (image script : Option (List ℕ)) (one other : Status) → CallsFor image script one
-    → CallsFor image script other → one ≡ other
+    (command : Command) (held : List ℕ → Option (List ℕ)) (one other : Status)
+    → CallsFor command held one → CallsFor command held other → one ≡ other
 
--- a script has at most one report
-abbrev pub ReportsAreOne : Type 0
-ReportsAreOne =
-    (image : ImageValue) (script : List Command) (one other : List ℕ) → IsRun image script one
-    → IsRun image script other → one ≡ other
+-- a command puts at most one text
+abbrev pub OutputsAreOne : Type 0
+OutputsAreOne =
+    (command : Command) (held : List ℕ → Option (List ℕ)) (one other : List ℕ)
+    → IsOutput command held one → IsOutput command held other → one ≡ other
 
--- a script that is followed to its end meets nothing that is not built
-abbrev pub RunsMeetNothing : Type 0
-RunsMeetNothing =
-    (image : ImageValue) (script : List Command) (text : List ℕ) (pc : ℕ) → IsRun image script text
-    → MeetsUnbuilt (start_of image) script pc → ⊥
+-- where there is something to put, that is called for
+abbrev pub OutputsAreCalledFor : Type 0
+OutputsAreCalledFor =
+    (command : Command) (held : List ℕ → Option (List ℕ)) (text : List ℕ)
+    → IsOutput command held text → CallsFor command held Done

@@ -1,11 +1,3 @@
-pub mod Words
-pub mod PlainScript
-pub mod PlainLines
-pub mod Follows
-pub mod Following
-pub mod Running
+pub mod Commands
 pub mod Answers
-pub mod Assembling
-pub mod Checked
 pub mod Laws
-pub mod Fetching

@@ -1,14 +1,16 @@
-//! Laws of runs.
-ghost use Rattle.wf_top.specs.Laws.{AnswersAreOne, ReportsAreOne, RunsMeetNothing};
+//! Laws of commands.
+ghost use Rattle.wf_top.specs.Laws.{AnswersAreOne, OutputsAreCalledFor, OutputsAreOne};
 
-use wf_next::harts_are_determined;
+use wf_check::checks_are_determined;
+use wf_run::answers_are_determined as runs_are_determined;
 
-/// Two files call for at most one answer; a script on an image has at most one report; and a script
-/// that is followed to its end meets nothing that is not built.
-pub fn runs_are_determined()
+/// Files call for at most one answer to a command, which puts at most one text; where there is one,
+/// it is called for.
+pub fn answers_are_determined()
     ensures answers { AnswersAreOne }
-    ensures reports { ReportsAreOne }
-    ensures whole { RunsMeetNothing }
+    ensures outputs { OutputsAreOne }
+    ensures called { OutputsAreCalledFor }
 {
-    harts_are_determined();
+    checks_are_determined();
+    runs_are_determined();
 }

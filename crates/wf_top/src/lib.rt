@@ -1,14 +1,9 @@
-//! The runs of the program.
+//! The commands of the program.
 #![tactic(auto)]
 
-mod assembling;
-mod checking;
-mod following;
-mod input;
+mod answering;
 mod laws;
-mod running;
-mod script;
-mod words;
+mod output;
 
-pub use laws::runs_are_determined;
-pub use running::top;
+pub use answering::top;
+pub use laws::answers_are_determined;

@@ -1,6 +1,6 @@
 use Rattle.std.proofs.Common.{◌++◌, ◌+◌, ◌-◌, ℕ, List, drop, take, ap, sym, ◌∙◌, append_assoc}
 use Rattle.std.specs.List.{flat_map}
-use Rattle.wf_journal.specs.Reports.{entry_line}
+use Rattle.wf_journal.specs.Lines.{entry_line}
 use Rattle.wf_report.specs.Listings.{ListingValue}
 use Rattle.wf_report.specs.Reports.{body_from}
 use Rattle.wf_report.proofs.ListingLemmas.{body-at}

@@ -1,0 +1,9 @@
+# Hart 0 maps a page; hart 1 exits.
+.text
+_start:
+    bne a0, x0, leave
+    li a7, 2
+    ecall
+leave:
+    li a7, 0
+    ecall

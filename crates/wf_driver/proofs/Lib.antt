@@ -1,0 +1,12 @@
+pub mod ActionLemmas
+pub mod BuiltLemmas
+pub mod StepLemmas
+pub mod CallLemmas
+pub mod AccessLemmas
+pub mod MakingLemmas
+pub mod ServingLemmas
+pub mod CarryLemmas
+pub mod PlaceLemmas
+pub mod MadeLemmas
+pub mod TurnLemmas
+pub mod StartLemmas

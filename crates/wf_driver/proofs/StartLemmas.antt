@@ -1,0 +1,57 @@
+-- The machine at its start: every page is free, every hart is in no try, and so many there are.
+use Rattle.std.proofs.Common.{◌≡◌, ◌≤◌, ◌++◌, ◌+◌, ℕ, zero, suc, List, [], ◌∷◌, None, length, map, refl, sym, subst, length-append, arith}
+use Rattle.std.specs.List.{AllByRecursion}
+use Rattle.wf_outside.specs.Pages.{DataPageValue, LimitsValue}
+use Rattle.wf_outside.specs.Images.{ImageValue}
+use Rattle.wf_flat.specs.State.{FlatState, HartState, PageState}
+use Rattle.wf_flat.specs.Lists.{sorted_by}
+use Rattle.wf_flat.specs.Ordered.{IsOrdered}
+use Rattle.wf_flat.specs.Boot.{boot_harts, boot_hart, boot_of, boot_pages, fresh_page, numbered_from, stack_of, stacks_of}
+use Rattle.wf_flat.proofs.ListLemmas.{all_append}
+use Rattle.wf_flat.proofs.SortLemmas.{all_sorted}
+use Rattle.wf_driver.specs.Stepping.{IsSettled}
+use Rattle.wf_driver.specs.Making.{IsReady}
+
+fresh_settled : (pages : List DataPageValue) → AllByRecursion IsSettled (map fresh_page pages)
+fresh_settled [] = tt
+fresh_settled (page ∷ pages) = ((refl, refl), fresh_settled pages)
+
+stacks_settled : (n : ℕ) → AllByRecursion IsSettled (stacks_of n)
+unfolding stacks_of
+stacks_settled zero = tt
+stacks_settled (suc n) = all_append IsSettled (stacks_of n) (stack_of n) (stacks_settled n) ((refl, refl), ((refl, refl), ((refl, refl), ((refl, refl), tt))))
+
+numbered_settled : (birth : ℕ) (pages : List PageState) → AllByRecursion IsSettled pages → AllByRecursion IsSettled (numbered_from birth pages)
+unfolding numbered_from
+numbered_settled birth [] all = tt
+numbered_settled birth (page ∷ pages) all = (all.0, numbered_settled (birth + 1) pages all.1)
+
+boot_settled : (image : ImageValue) (harts : ℕ) → AllByRecursion IsSettled (boot_pages image harts)
+boot_settled image harts =
+    let pages : List PageState = map fresh_page image.pages in
+    numbered_settled 0 (sorted_by (λ page. page.number) pages ++ stacks_of harts)
+    (all_append IsSettled (sorted_by (λ page. page.number) pages) (stacks_of harts) (all_sorted IsSettled (λ (page : PageState). page.number) pages (fresh_settled image.pages)) (stacks_settled harts))
+
+no_tries : (entry n : ℕ) → AllByRecursion (λ hart. hart.fetched ≡ None) (boot_harts entry n)
+unfolding boot_harts
+no_tries entry zero = tt
+no_tries entry (suc n) = all_append (λ (hart : HartState). hart.fetched ≡ None) (boot_harts entry n) (boot_hart entry n ∷ []) (no_tries entry n) (refl, tt)
+
+harts_length : (entry n : ℕ) → length (boot_harts entry n) ≡ n
+unfolding boot_harts
+harts_length entry zero = refl
+harts_length entry (suc n) = let rest = harts_length entry n in let both = length-append (boot_harts entry n) (boot_hart entry n ∷ []) in omega arith
+
+boot_ready : (image : ImageValue) (harts : ℕ) (limits : LimitsValue) → 1 ≤ harts → harts ≤ 64 → IsOrdered (boot_of image harts limits) → IsReady (boot_of image harts limits)
+boot_ready image harts limits some few ordered =
+    let e : length (boot_harts image.entry harts) ≡ harts = harts_length image.entry harts in
+    record {
+      rests = record { no_one = refl; no_try = no_tries image.entry harts; ordered = ordered; free = boot_settled image harts };
+      some = rw e some;
+      few = rw e few;
+    }
+
+-- so it is ready
+pub starts_ready : (image : ImageValue) (harts : ℕ) (limits : LimitsValue) (flat : FlatState) → flat ≡ boot_of image harts limits → 1 ≤ harts → harts ≤ 64 → IsOrdered flat → IsReady flat
+starts_ready image harts limits flat is some few ordered =
+    subst IsReady (sym is) (boot_ready image harts limits some few (subst IsOrdered is ordered))

@@ -1,0 +1,6 @@
+use Rattle.wf_driver.proofs.TurnLemmas.{idled}
+use Rattle.wf_driver.proofs.machine.Machine.idle.Goals as goal
+
+pub returns-clause-ok : goal.returns-clause-ok
+returns-clause-ok c =
+    idled c.self.inside.flat c.self.inside.entries.items c.push.new.self.items c.self.inside.listings.items c.self.inside.last c.args.self.now c.self.view_is c.self.invariant c.requires c.in_ok-push.ensures.items

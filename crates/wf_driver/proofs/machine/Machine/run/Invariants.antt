@@ -1,0 +1,10 @@
+use Rattle.std.proofs.Common.{◌≡◌, length}
+use Rattle.wf_follow.specs.Units.{IsTurn, Times}
+use Rattle.wf_driver.specs.Making.{HasMade}
+use Rattle.wf_driver.proofs.machine.Machine.run.Given as goal
+
+abbrev pub invariant-loop : goal.invariant-loop
+invariant-loop l = record {
+  made : HasMade (Times l.counter IsTurn) l.fn.self l.self;
+  harts : length l.self.flat.harts ≡ length l.fn.self.flat.harts;
+}

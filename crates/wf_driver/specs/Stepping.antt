@@ -1,0 +1,259 @@
+-- What the machine keeps around a unit of a hart, and how far a unit has come.
+use Rattle.std.specs.Prelude.{◌≡◌, ◌≢◌, ◌⊎◌, ◌<◌, ◌++◌, ◌%◌, ℕ, List, [], ◌∷◌, Bool, true, false, not, if◌then◌else◌, Option, Some, None, IfSome, IsSomeAnd, map, nat_lt, slice_index}
+use Rattle.std.specs.List.{AllByRecursion}
+use Rattle.rv_inst.specs.declared.causes.TheConstants.{ILLEGAL_INSTRUCTION}
+use Rattle.rv_inst.specs.declared.inst.Inst.{Inst}
+use Rattle.rv_inst.specs.declared.inst.Inst.TheVariants.{Ecall}
+use Rattle.rv_inst.specs.declared.want.Want.{Want}
+use Rattle.rv_inst.specs.declared.want.Want.TheVariants.{Nothing}
+use Rattle.rv_inst.specs.declared.want.Want.TheVariants as want
+use Rattle.rv_inst.specs.Arch.{ArchState}
+use Rattle.rv_inst.specs.Decoding.{inst_of}
+use Rattle.rv_inst.specs.Spelling.{IsSpelled}
+use Rattle.rv_inst.specs.Meanings.{want_of, meaning_of}
+use Rattle.wf_flat.specs.declared.event.Actor.TheVariants.{Hart}
+use Rattle.wf_flat.specs.declared.state.Stage.TheVariants.{Here}
+use Rattle.wf_flat.specs.declared.state.Life.TheVariants.{Running}
+use Rattle.wf_outside.specs.Lists.{IsRising}
+use Rattle.wf_outside.specs.Pages.{page_of}
+use Rattle.wf_flat.specs.Memory.{page_in, data_in, word_at, has_met, with_met, met_key}
+use Rattle.wf_flat.specs.Ordered.{IsOrdered}
+use Rattle.wf_flat.specs.Serving.{held_by, IsAlone, IsPlace}
+use Rattle.wf_flat.specs.Accesses.{Access}
+use Rattle.wf_flat.specs.Steps.{OfHart, generation_text, inst_in, want_in, access_in, is_lost, takes_for, is_done, arch_after}
+use Rattle.wf_flat.specs.declared.event.Event.TheVariants.{Sync}
+use Rattle.wf_verdict.specs.declared.work.Todo.{Todo}
+use Rattle.wf_verdict.specs.declared.work.Todo.TheVariants.{Exactly}
+use Rattle.wf_legal.specs.Calls.{todo_by}
+use Rattle.wf_flat.specs.declared.event.Entry.{Entry}
+use Rattle.wf_flat.specs.State.{FlatState, HartState, PageState}
+use Rattle.wf_legal.specs.Legal.{IsLegal, end_of, at_rest}
+use Rattle.wf_legal.specs.Built.{IsBuilt}
+use Rattle.wf_flat.specs.Follows.{ends_unit}
+use Rattle.wf_driver.specs.declared.finding.Found.{Found}
+use Rattle.wf_driver.specs.declared.stepping.Start.{Start}
+use Rattle.wf_driver.specs.declared.stepping.Start.TheVariants.{Stopped, Word, Fault}
+use Rattle.wf_driver.specs.declared.actions.Operand.{Operand}
+use Rattle.wf_driver.specs.declared.actions.Write.{Write}
+use Rattle.wf_driver.specs.declared.actions.Write.TheVariants.{Put, PutIf, Swap}
+use Rattle.wf_driver.specs.declared.actions.Action.{Action}
+use Rattle.wf_driver.specs.declared.actions.Action.TheVariants.{Run, Load, Store, Trap, Exit, Out, OwnGeneration, Refuse}
+
+-- a page that is Here and that nobody holds
+abbrev pub IsSettled : PageState → Type 0
+IsSettled page = (page.stage ≡ Here) × (page.holder ≡ None)
+
+-- nobody is inside, no hart is in a try, and no page is held or leaving
+pub record IsResting (s : FlatState) : Type 0 where
+  pub no_one : s.inside ≡ None
+  pub no_try : AllByRecursion (λ hart. hart.fetched ≡ None) s.harts
+  pub ordered : IsOrdered s
+  pub free : AllByRecursion IsSettled s.pages
+
+-- nobody is inside, no hart but this one is in a try, no page is leaving, and none is held but this
+-- one, if any
+pub record IsActing (s : FlatState) (h : ℕ) (held : Option ℕ) : Type 0 where
+  pub no_one : s.inside ≡ None
+  pub others : IsAlone s h
+  pub ordered : IsOrdered s
+  pub pages : AllByRecursion
+      (λ page. (page.stage ≡ Here) × ((page.holder ≡ None) ⊎ (held ≡ Some page.number))) s.pages
+
+-- a hart that runs is in a try of a word, with these registers, and has done nothing in it
+abbrev pub IsInTry : ArchState → ℕ → HartState → Type 0
+IsInTry arch word hart =
+    (hart.life ≡ Running) × (hart.fetched ≡ Some word) × (hart.looked ≡ None) × (hart.arch ≡ arch)
+    × (hart.put ≡ false) × (hart.moved ≡ [])
+
+-- what a load of the operand wants, or a load-reserved
+abbrev pub load_want : Operand → Bool → Want
+load_want operand reserving =
+    if reserving then want.Reserve operand.va operand.width else want.Look operand.va operand.width
+
+-- what a write of the operand wants, by its kind
+abbrev pub store_want : Operand → Write → Want
+store_want operand (Put value) = want.Put operand.va operand.width value
+store_want operand (PutIf value) = want.PutIf operand.va operand.width value
+store_want operand (Swap op value) = want.Swap operand.va operand.width op value
+
+-- the access of an operand that is read
+abbrev pub load_at : Operand → Access
+load_at operand = record { va = operand.va; width = operand.width; write = false }
+
+-- the access of an operand that is written
+abbrev pub store_at : Operand → Access
+store_at operand = record { va = operand.va; width = operand.width; write = true }
+
+-- a hart runs and is in a try of the instruction, with these registers, and has done nothing in it
+abbrev pub IsTrying : ArchState → Inst → HartState → Type 0
+IsTrying arch inst hart =
+    (hart.life ≡ Running) × (inst_in hart ≡ Some inst) × (hart.arch ≡ arch) × (hart.looked ≡ None)
+    × (hart.put ≡ false) × (hart.moved ≡ [])
+
+-- the hart of a number does so
+abbrev pub InAccess : FlatState → ℕ → ArchState → Inst → Type 0
+InAccess s h arch inst = OfHart s h (IsTrying arch inst)
+
+-- a hart that runs is in a try of an instruction that is done, holds this page, if any, and leaves
+-- these registers
+abbrev pub IsDone : FlatState → ℕ → Option ℕ → ArchState → Type 0
+IsDone s h held next =
+    OfHart s h
+    (λ hart. (hart.life ≡ Running) × (is_done hart (want_in hart) ≡ true)
+    × (held ≡ held_by s h (access_in hart)) × (next ≡ arch_after hart))
+
+-- what an access finds in the data: a page, its right, its mapping and count of writes, and whether
+-- that is the last
+abbrev pub IsFound : FlatState → ℕ → Found → Type 0
+IsFound s number found =
+    IsSomeAnd (data_in s.pages number)
+    (λ page. (found.page ≡ page.number) × (found.write ≡ page.write) × (found.birth ≡ page.birth)
+    × (found.writes ≡ page.writes)
+    × (found.last ≡ not (nat_lt page.writes s.limits.last_writes)))
+
+-- the page at an address, if there is one, and whether the hart's generation has met it
+abbrev pub IsPlaceOf : FlatState → ℕ → ℕ → Option Found → Type 0
+IsPlaceOf s h va None = data_in s.pages (page_of va) ≡ None
+IsPlaceOf s h va (Some found) =
+    IsFound s (page_of va) found
+    × OfHart s h (λ hart. found.met ≡ has_met s.met hart.generation found.page)
+
+-- what generations will have met where an access is to a page that the hart's own has not met, and
+-- is to meet; else nothing
+abbrev pub IsPageToSync : FlatState → ℕ → ℕ → Option (List (ℕ × ℕ)) → Type 0
+IsPageToSync s h va None =
+    IfSome (data_in s.pages (page_of va))
+    (λ page. OfHart s h (λ hart. has_met s.met hart.generation page.number ≡ true))
+IsPageToSync s h va (Some met) =
+    IsSomeAnd (data_in s.pages (page_of va))
+    (λ page. OfHart s h
+    (λ hart. (has_met s.met hart.generation page.number ≡ false)
+    × (met ≡ with_met s.met hart.generation page.number)))
+    × IsRising (map met_key met)
+
+-- no text of the hart's generation is at the address, and the generation has met this page
+abbrev pub IsNear : FlatState → ℕ → ℕ → ℕ → Type 0
+IsNear s h va page =
+    OfHart s h
+    (λ hart. (page_in (generation_text s hart.generation) (page_of va) ≡ None)
+    × (has_met s.met hart.generation page ≡ true))
+
+-- a hart that runs asks for what takes these events
+abbrev pub IsToDo : FlatState → ℕ → HartState → List Todo → Type 0
+IsToDo s h hart todo = (hart.life ≡ Running) × (todo_by [] s h hart ≡ todo)
+
+-- a hart's generation has met a page; or else it is to meet it, and this is what will be met then
+abbrev pub IsMeeting : FlatState → ℕ → ℕ → Option (List (ℕ × ℕ)) → Type 0
+IsMeeting s h page None = OfHart s h (λ hart. has_met s.met hart.generation page ≡ true)
+IsMeeting s h page (Some met) =
+    OfHart s h
+    (λ hart. IsToDo s h hart (Exactly (Sync hart.generation page) ∷ [])
+    × (met ≡ with_met s.met hart.generation page))
+    × IsRising (map met_key met)
+
+-- the write is no store-conditional's, or the hart's reservation has its address and width
+abbrev pub WillReach : FlatState → ℕ → Operand → Write → Type 0
+WillReach s h operand write =
+    OfHart s h (λ hart. is_lost (Some (store_want operand write)) hart.reservation ≡ false)
+
+-- whether the write is made to the page that is there: that of a store-conditional where its
+-- reservation stands
+abbrev pub WillWrite : FlatState → ℕ → Operand → Write → Bool → Type 0
+WillWrite s h operand write will =
+    OfHart s h
+    (λ hart. IfSome (data_in s.pages (page_of operand.va))
+    (λ page. will
+    ≡ takes_for (Some (store_want operand write)) s hart (store_at operand) page))
+
+-- what generations will have met where an action makes a hart's own meet a page
+abbrev pub IsToMeet : FlatState → ℕ → Action → Option (List (ℕ × ℕ)) → Type 0
+IsToMeet s h (Load operand reserving) met = IsPageToSync s h operand.va met
+IsToMeet s h (Store operand write) met =
+    WillReach s h operand write → IsPageToSync s h operand.va met
+IsToMeet s h action met = Unit {0}
+
+-- pages, texts, sizes and harts are the same
+pub record IsSame (old new : FlatState) : Type 0 where
+  pub pages : new.pages ≡ old.pages
+  pub gens : new.gens ≡ old.gens
+  pub limits : new.limits ≡ old.limits
+  pub harts : new.harts ≡ old.harts
+
+-- a hart that runs is in no try, at this pc, where its text has this word
+abbrev pub IsAt : FlatState → HartState → ℕ → ℕ → Type 0
+IsAt s hart pc word =
+    (hart.life ≡ Running) × (hart.fetched ≡ None) × (pc ≡ hart.arch.pc)
+    × (word_at (generation_text s hart.generation) pc ≡ Some word)
+
+-- what a hart finds where it is to begin a try
+abbrev pub IsStart : FlatState → ℕ → Start → Type 0
+IsStart s h Stopped = OfHart s h (λ hart. hart.life ≢ Running)
+IsStart s h (Word arch word) =
+    OfHart s h
+    (λ hart. (hart.life ≡ Running) × (hart.arch ≡ arch)
+    × (word_at (generation_text s hart.generation) arch.pc ≡ Some word))
+IsStart s h (Fault pc) =
+    OfHart s h
+    (λ hart. (hart.life ≡ Running) × (hart.arch.pc ≡ pc)
+    × (word_at (generation_text s hart.generation) pc ≡ None))
+
+-- the trap of a word that is no instruction, or whose instruction wants it
+abbrev pub IsTrapOf : ArchState → ℕ → Option Inst → ℕ → ℕ → Type 0
+IsTrapOf arch word None cause value = (cause ≡ ILLEGAL_INSTRUCTION) × (value ≡ word)
+IsTrapOf arch word (Some inst) cause value = want_of inst arch ≡ want.Trap cause value
+
+-- what an instruction reads, and whether it reserves that
+abbrev pub IsLoad : ArchState → Operand → Bool → Type 0
+IsLoad arch operand reserving =
+    (want_of operand.inst arch ≡ load_want operand reserving) × IsSpelled operand.inst
+    × IsPlace operand.va operand.width
+
+-- what an instruction writes, and how
+abbrev pub IsStore : ArchState → Operand → Write → Type 0
+IsStore arch operand write =
+    (want_of operand.inst arch ≡ store_want operand write) × IsSpelled operand.inst
+    × IsPlace operand.va operand.width
+
+-- what a hart with these registers is to do with a word
+abbrev pub IsAction : ArchState → ℕ → Action → Type 0
+IsAction arch word (Run next) =
+    IsSomeAnd (inst_of word)
+    (λ inst. (want_of inst arch ≡ Nothing) × (next ≡ meaning_of inst arch 0))
+IsAction arch word (Load operand reserving) =
+    (inst_of word ≡ Some operand.inst) × IsLoad arch operand reserving
+IsAction arch word (Store operand write) =
+    (inst_of word ≡ Some operand.inst) × IsStore arch operand write
+IsAction arch word (Trap cause value) = IsTrapOf arch word (inst_of word) cause value
+IsAction arch word (Exit code) =
+    (inst_of word ≡ Some Ecall) × (slice_index arch.x 17 ≡ 0) × (code ≡ slice_index arch.x 10)
+IsAction arch word (Out byte) =
+    (inst_of word ≡ Some Ecall) × (slice_index arch.x 17 ≡ 1) × (byte ≡ slice_index arch.x 10 % 256)
+IsAction arch word OwnGeneration = (inst_of word ≡ Some Ecall) × (slice_index arch.x 17 ≡ 4)
+IsAction arch word (Refuse number) =
+    (inst_of word ≡ Some Ecall) × (number ≡ slice_index arch.x 17) × (8 < number)
+
+-- entries of one hart, none of which ends a unit
+abbrev pub IsOpen : ℕ → List Entry → Type 0
+IsOpen h entries =
+    AllByRecursion (λ entry. (entry.actor ≡ Hart h) × (ends_unit entry.event ≡ false)) entries
+
+-- A unit of a hart has begun behind the entries so far, from this state, and has come to this one.
+-- What it made is legal and built.
+pub record HasBegun (old : FlatState) (before : List Entry) (new : FlatState) (now : List Entry)
+    (h : ℕ) : Type 0 where
+  pub made : List Entry
+  pub appended : now ≡ before ++ made
+  pub legal : IsLegal (at_rest [] old) made
+  pub built : IsBuilt (at_rest [] old) made
+  pub reached : at_rest [] new ≡ end_of (at_rest [] old) made
+  pub open_yet : IsOpen h made
+
+-- legal entries with P, all of them built, came behind those so far, and the state went along
+pub record Continues (old : FlatState) (before : List Entry) (new : FlatState) (now : List Entry)
+    (P : List Entry → Type 0) : Type 0 where
+  pub made : List Entry
+  pub appended : now ≡ before ++ made
+  pub legal : IsLegal (at_rest [] old) made
+  pub built : IsBuilt (at_rest [] old) made
+  pub reached : at_rest [] new ≡ end_of (at_rest [] old) made
+  pub fits : P made

@@ -1,0 +1,151 @@
+//! What a hart is to do with a word.
+ghost use Rattle.std.specs.Prelude.{◌≡◌, ◌≢◌, IfSome, None, Some, ℕ, false, slice_index};
+ghost use Rattle.rv_inst.specs.declared.causes.TheConstants.{ILLEGAL_INSTRUCTION};
+ghost use Rattle.rv_inst.specs.Decoding.{inst_of};
+ghost use Rattle.rv_inst.specs.Spelling.{IsSpelled};
+ghost use Rattle.rv_inst.specs.Meanings.{want_of, meaning_of};
+ghost use Rattle.wf_legal.specs.Built as built;
+ghost use Rattle.wf_flat.specs.State.{HartState};
+ghost use Rattle.wf_legal.specs.Built.{IsUnbuiltInst};
+ghost use Rattle.wf_driver.specs.Stepping.{IsAction};
+
+use rv_alu::AmoOp;
+use rv_hart::{finish, plan};
+use rv_inst::causes::ILLEGAL_INSTRUCTION;
+use rv_inst::{Arch, Inst, Want, decode};
+
+/// What an instruction reads or writes.
+#[derive(Clone, Copy, Debug, PartialEq, Eq)]
+pub struct Operand {
+    /// The instruction.
+    pub inst: Inst,
+    /// The address, a multiple of the width.
+    pub va: u64,
+    /// Its bytes: 1, 2, 4 or 8.
+    pub width: u8,
+}
+
+/// How an instruction writes.
+#[derive(Clone, Copy, Debug, PartialEq, Eq)]
+pub enum Write {
+    /// A store, of the low bytes of a value.
+    Put { value: u64 },
+    /// A store-conditional: so too, if its reservation stands.
+    PutIf { value: u64 },
+    /// An atomic memory operation, of what it makes of the bytes there and a value.
+    Swap { op: AmoOp, value: u64 },
+}
+
+/// What a hart does with the word that it fetched.
+#[derive(Clone, Copy, Debug, PartialEq, Eq)]
+pub enum Action {
+    /// The instruction wants nothing, and leaves these registers.
+    Run { next: Arch },
+    /// It reads, and reserves what it reads where it is a load-reserved.
+    Load { operand: Operand, reserving: bool },
+    /// It writes.
+    Store { operand: Operand, write: Write },
+    /// It stops with a trap.
+    Trap { cause: u8, value: u64 },
+    /// It exits.
+    Exit { code: u64 },
+    /// It puts a byte.
+    Out { byte: u8 },
+    /// It asks for its own generation.
+    OwnGeneration,
+    /// It makes a call of this number, which there is not.
+    Refuse { number: u64 },
+}
+
+/// What a hart with these registers does with a word; `None` where it is not built.
+#[tactic(auto, using(crate::proofs::ActionLemmas::places))]
+pub fn action_of(arch: &Arch, word: u32) -> Option<Action>
+    ensures action { IfSome result (λ action. IsAction arch.now word action) }
+    ensures none { (hart : HartState) → hart.arch ≡ arch.now → result ≡ None
+        → IsUnbuiltInst hart (inst_of word) }
+{
+    let Some(inst) = decode(word) else {
+        return Some(illegal(word));
+    };
+    match plan(arch, inst) {
+        Want::Nothing => Some(Action::Run {
+            next: arch_after(arch, inst),
+        }),
+        Want::Trap { cause, value } => Some(Action::Trap { cause, value }),
+        Want::Call => call_of(arch),
+        Want::Look { va, width } => Some(Action::Load {
+            operand: Operand { inst, va, width },
+            reserving: false,
+        }),
+        Want::Reserve { va, width } => Some(Action::Load {
+            operand: Operand { inst, va, width },
+            reserving: true,
+        }),
+        Want::Put { va, width, value } => Some(Action::Store {
+            operand: Operand { inst, va, width },
+            write: Write::Put { value },
+        }),
+        Want::PutIf { va, width, value } => Some(Action::Store {
+            operand: Operand { inst, va, width },
+            write: Write::PutIf { value },
+        }),
+        Want::Swap {
+            va,
+            width,
+            op,
+            value,
+        } => Some(Action::Store {
+            operand: Operand { inst, va, width },
+            write: Write::Swap { op, value },
+        }),
+    }
+}
+
+// The trap of a word that is no instruction.
+fn illegal(word: u32) -> Action
+    ensures { result ≡ Action.Trap ILLEGAL_INSTRUCTION word }
+{
+    Action::Trap {
+        cause: ILLEGAL_INSTRUCTION,
+        value: u64::from(word),
+    }
+}
+
+// The registers after an instruction that wants nothing.
+fn arch_after(arch: &Arch, inst: Inst) -> Arch
+    requires spelled { IsSpelled inst }
+    requires quiet { want_of inst arch.now ≡ Want.Nothing }
+    ensures { result ≡ meaning_of inst arch.now 0 }
+{
+    finished(arch, inst, 0)
+}
+
+/// The registers after an instruction that read this, or that wants nothing.
+pub fn finished(arch: &Arch, inst: Inst, got: u64) -> Arch
+    requires spelled { IsSpelled inst }
+    requires own { want_of inst arch.now ≢ Want.Call }
+    requires no_trap { (cause value : ℕ) → want_of inst arch.now ≢ Want.Trap cause value }
+    ensures { result ≡ meaning_of inst arch.now got }
+{
+    let mut next = *arch;
+    finish(&mut next, inst, got);
+    next
+}
+
+// What a call is to do, by its number in a7.
+fn call_of(arch: &Arch) -> Option<Action>
+    ensures action { (word : ℕ) → inst_of word ≡ Some Inst.Ecall
+        → IfSome result (λ action. IsAction arch.now word action) }
+    ensures none { result ≡ None → built.is_built_call (slice_index arch.now.x 17) ≡ false }
+{
+    let first = arch.x[10];
+    match arch.x[17] {
+        0 => Some(Action::Exit { code: first }),
+        1 => Some(Action::Out {
+            byte: (first % 256) as u8,
+        }),
+        4 => Some(Action::OwnGeneration),
+        number if number > 8 => Some(Action::Refuse { number }),
+        _ => None,
+    }
+}

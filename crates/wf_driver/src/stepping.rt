@@ -1,0 +1,341 @@
+//! One unit of a hart: a whole try, or an idle.
+ghost use Rattle.std.specs.Prelude.{◌≡◌, ◌≢◌, ◌<◌, ◌+◌, ◌++◌, ◌∷◌, [], ℕ, List, OnOk, OnErr, IfOk, Option, None, Some, Err, length, slice_get, vec_len, vec_capacity};
+ghost use Rattle.std.specs.Option.{option_map};
+ghost use Rattle.rv_inst.specs.Meanings.{called};
+ghost use Rattle.wf_outside.specs.declared.refusal.Refusal.TheVariants as refusals;
+ghost use Rattle.wf_flat.specs.declared.event.Event.TheVariants as events;
+ghost use Rattle.wf_flat.specs.declared.event.Entry.{Entry as FlatEntry};
+ghost use Rattle.wf_flat.specs.declared.state.Life.TheVariants.{Running};
+ghost use Rattle.wf_flat.specs.State.{FlatState};
+ghost use Rattle.wf_flat.specs.Refusals.{refused_answer};
+ghost use Rattle.wf_flat.specs.Steps.{OfHart, access_in, arch_after};
+ghost use Rattle.wf_flat.specs.Changes.{fetched_with, answered};
+ghost use Rattle.wf_verdict.specs.declared.work.Todo.TheVariants.{Exactly};
+ghost use Rattle.wf_flat.specs.Ordered.{IsOrdered};
+ghost use Rattle.wf_flat.specs.Follows.{IsUnit};
+ghost use Rattle.wf_legal.specs.Built.{IsUnbuilt};
+ghost use Rattle.wf_driver.specs.Stepping.{IsStart, IsResting, IsActing, IsAt, IsInTry, IsToDo, IsToMeet, IsDone, IsAction, HasBegun, Continues};
+
+use crate::actions::{Action, action_of};
+use crate::fault::ObeyFault;
+use crate::finding::page_to_sync;
+use crate::loading::load;
+use crate::storing::{page_to_sync_by, store};
+use rv_hart::finish_call;
+use rv_inst::Arch;
+use rv_inst::causes::INSTRUCTION_PAGE_FAULT;
+use std::alloc::AllocError;
+use wf_flat::{Actor, Entry, Event, Flat, Life, answer_of};
+use wf_outside::{Memory, Refusal};
+
+// The most entries that a unit makes.
+const MOST: usize = 6;
+
+/// An entry of a hart, for which there is room.
+pub fn append(journal: &mut Vec<Entry>, hart: u8, event: Event)
+    requires { vec_len journal.old < vec_capacity journal.old }
+    ensures items { journal.new.items
+        ≡ journal.old.items ++ record { actor = Actor.Hart hart; event = event } ∷ [] }
+    ensures len { vec_len journal.new ≡ vec_len journal.old + 1 }
+    ensures capacity { vec_capacity journal.new ≡ vec_capacity journal.old }
+{
+    journal.push_reserved(Entry {
+        actor: Actor::Hart(hart),
+        event,
+    });
+}
+
+// A try begins: a hart fetches the word at its pc.
+fn fetch(flat: &mut Flat, journal: &mut Vec<Entry>, hart: u8, pc: u64, word: u32)
+    requires room { vec_len journal.old < vec_capacity journal.old }
+    requires acts { IsActing flat.old hart None }
+    requires ready { OfHart flat.old hart (λ state. IsAt flat.old state pc word) }
+    requires built { IsUnbuilt flat.old hart pc → ⊥ }
+    ensures made { (s : FlatState) (before : List FlatEntry)
+        → HasBegun s before flat.old journal.old.items hart
+        → HasBegun s before flat.new journal.new.items hart }
+    ensures acts { IsActing flat.new hart None }
+    ensures hart { slice_get flat.new.harts hart
+        ≡ option_map (fetched_with word) (slice_get flat.old.harts hart) }
+    ensures meets { (action : Action) (met : Option (List (ℕ × ℕ)))
+        → IsToMeet flat.old hart action met → IsToMeet flat.new hart action met }
+    ensures harts { length flat.new.harts ≡ length flat.old.harts }
+    ensures len { vec_len journal.new ≡ vec_len journal.old + 1 }
+    ensures capacity { vec_capacity journal.new ≡ vec_capacity journal.old }
+{
+    flat.fetch(hart, pc, word);
+    append(journal, hart, Event::Fetch { pc, word });
+}
+
+/// A try ends: its instruction is done, and leaves these registers; the page that it holds, if any,
+/// is given back.
+pub fn end(flat: &mut Flat, journal: &mut Vec<Entry>, hart: u8, held: Option<u32>, next: Arch)
+    requires room { vec_len journal.old < vec_capacity journal.old }
+    requires acts { IsActing flat.old hart held }
+    requires done { IsDone flat.old hart held next }
+    ensures made { (s : FlatState) (before : List FlatEntry)
+        → HasBegun s before flat.old journal.old.items hart
+        → Continues s before flat.new journal.new.items (IsUnit hart) }
+    ensures rests { IsResting flat.new }
+    ensures harts { length flat.new.harts ≡ length flat.old.harts }
+{
+    flat.end(hart, held, next);
+    append(journal, hart, Event::End { pc: next.pc });
+}
+
+/// A hart asks for its trap, and stops.
+pub fn trap(flat: &mut Flat, journal: &mut Vec<Entry>, hart: u8, cause: u8, value: u64)
+    requires room { vec_len journal.old + 1 < vec_capacity journal.old }
+    requires acts { IsActing flat.old hart None }
+    requires ready { OfHart flat.old hart
+        (λ state. IsToDo flat.old hart state (Exactly (events.Trap cause value) ∷ [])) }
+    ensures made { (s : FlatState) (before : List FlatEntry)
+        → HasBegun s before flat.old journal.old.items hart
+        → Continues s before flat.new journal.new.items (IsUnit hart) }
+    ensures rests { IsResting flat.new }
+    ensures harts { length flat.new.harts ≡ length flat.old.harts }
+{
+    flat.enter(Actor::Hart(hart));
+    flat.trap(hart, cause, value);
+    append(journal, hart, Event::Enter);
+    append(journal, hart, Event::Trap { cause, value });
+}
+
+// A hart exits.
+fn exit(flat: &mut Flat, journal: &mut Vec<Entry>, hart: u8, code: u64)
+    requires room { vec_len journal.old + 1 < vec_capacity journal.old }
+    requires acts { IsActing flat.old hart None }
+    requires ready { OfHart flat.old hart
+        (λ state. IsToDo flat.old hart state (Exactly (events.Exit code) ∷ [])) }
+    ensures made { (s : FlatState) (before : List FlatEntry)
+        → HasBegun s before flat.old journal.old.items hart
+        → Continues s before flat.new journal.new.items (IsUnit hart) }
+    ensures rests { IsResting flat.new }
+    ensures harts { length flat.new.harts ≡ length flat.old.harts }
+{
+    flat.enter(Actor::Hart(hart));
+    flat.exit(hart, code);
+    append(journal, hart, Event::Enter);
+    append(journal, hart, Event::Exit { code });
+}
+
+// A call ends at once, and leaves these registers.
+fn answer(flat: &mut Flat, journal: &mut Vec<Entry>, hart: u8, next: Arch)
+    requires room { vec_len journal.old + 1 < vec_capacity journal.old }
+    requires acts { IsActing flat.old hart None }
+    requires call { OfHart flat.old hart (λ state. access_in state ≡ None) }
+    requires ready { OfHart flat.old hart
+        (λ state. IsToDo flat.old hart state (Exactly (events.End next.pc) ∷ [])
+        × (next ≡ arch_after state)) }
+    ensures made { (s : FlatState) (before : List FlatEntry)
+        → HasBegun s before flat.old journal.old.items hart
+        → Continues s before flat.new journal.new.items (IsUnit hart) }
+    ensures rests { IsResting flat.new }
+    ensures harts { length flat.new.harts ≡ length flat.old.harts }
+{
+    flat.enter(Actor::Hart(hart));
+    flat.end(hart, None, next);
+    append(journal, hart, Event::Enter);
+    append(journal, hart, Event::End { pc: next.pc });
+}
+
+// A byte is put, and the call leaves these registers.
+fn put_byte(flat: &mut Flat, journal: &mut Vec<Entry>, hart: u8, byte: u8, next: Arch)
+    requires room { vec_len journal.old + 2 < vec_capacity journal.old }
+    requires acts { IsActing flat.old hart None }
+    requires call { OfHart flat.old hart (λ state. access_in state ≡ None) }
+    requires ready { OfHart flat.old hart
+        (λ state. IsToDo flat.old hart state
+        (Exactly (events.Out byte) ∷ Exactly (events.End next.pc) ∷ [])
+        × (next ≡ arch_after (answered 0 state))) }
+    ensures made { (s : FlatState) (before : List FlatEntry)
+        → HasBegun s before flat.old journal.old.items hart
+        → Continues s before flat.new journal.new.items (IsUnit hart) }
+    ensures rests { IsResting flat.new }
+    ensures harts { length flat.new.harts ≡ length flat.old.harts }
+{
+    flat.enter(Actor::Hart(hart));
+    flat.out(hart, byte);
+    flat.end(hart, None, next);
+    append(journal, hart, Event::Enter);
+    append(journal, hart, Event::Out { byte });
+    append(journal, hart, Event::End { pc: next.pc });
+}
+
+// A call is refused, since none has its number, and leaves these registers.
+fn refuse(flat: &mut Flat, journal: &mut Vec<Entry>, hart: u8, number: u64, next: Arch)
+    requires room { vec_len journal.old + 2 < vec_capacity journal.old }
+    requires acts { IsActing flat.old hart None }
+    requires call { OfHart flat.old hart (λ state. access_in state ≡ None) }
+    requires ready { OfHart flat.old hart
+        (λ state. IsToDo flat.old hart state
+        (Exactly (events.Refused (refusals.Number number)) ∷ Exactly (events.End next.pc) ∷ [])
+        × (next ≡ arch_after (answered (refused_answer (refusals.Number number)) state))) }
+    ensures made { (s : FlatState) (before : List FlatEntry)
+        → HasBegun s before flat.old journal.old.items hart
+        → Continues s before flat.new journal.new.items (IsUnit hart) }
+    ensures rests { IsResting flat.new }
+    ensures harts { length flat.new.harts ≡ length flat.old.harts }
+{
+    let reason = Refusal::Number { n: number };
+    flat.enter(Actor::Hart(hart));
+    flat.refuse(hart, reason);
+    flat.end(hart, None, next);
+    append(journal, hart, Event::Enter);
+    append(journal, hart, Event::Refused { reason });
+    append(journal, hart, Event::End { pc: next.pc });
+}
+
+// The registers behind a call with this answer.
+fn after_call(arch: &Arch, answer: u64) -> Arch
+    ensures { result ≡ called arch.now answer }
+{
+    let mut next = *arch;
+    finish_call(&mut next, answer);
+    next
+}
+
+// A hart in a try of a word does what it is to do.
+fn carry_out(
+    flat: &mut Flat,
+    journal: &mut Vec<Entry>,
+    hart: u8,
+    arch: &Arch,
+    word: u32,
+    action: Action,
+    met: Option<Vec<(u32, u32)>>,
+)
+    requires room { vec_len journal.old + 4 < vec_capacity journal.old }
+    requires acts { IsActing flat.old hart None }
+    requires ready { OfHart flat.old hart (IsInTry arch.now word) }
+    requires action { IsAction arch.now word action }
+    requires met { IsToMeet flat.old hart action (option_map (λ v. v.items) met) }
+    ensures made { (s : FlatState) (before : List FlatEntry)
+        → HasBegun s before flat.old journal.old.items hart
+        → Continues s before flat.new journal.new.items (IsUnit hart) }
+    ensures rests { IsResting flat.new }
+    ensures harts { length flat.new.harts ≡ length flat.old.harts }
+{
+    match action {
+        Action::Run { next } => end(flat, journal, hart, None, next),
+        Action::Load { operand, reserving } => load(
+            flat, journal, hart, arch, operand, reserving, met,
+        ),
+        Action::Store { operand, write } => store(flat, journal, hart, arch, operand, write, met),
+        Action::Trap { cause, value } => trap(flat, journal, hart, cause, value),
+        Action::Exit { code } => exit(flat, journal, hart, code),
+        Action::Out { byte } => put_byte(flat, journal, hart, byte, after_call(arch, 0)),
+        Action::OwnGeneration => {
+            let own = u64::from(flat.harts[hart as usize].generation);
+            answer(flat, journal, hart, after_call(arch, own));
+        }
+        Action::Refuse { number } => {
+            let answer = answer_of(Refusal::Number { n: number });
+            refuse(flat, journal, hart, number, after_call(arch, answer));
+        }
+    }
+}
+
+// What the generations will have met where an action makes a hart's own meet a page; else `None`.
+fn to_meet(flat: &Flat, hart: u8, action: &Action) -> Result<Option<Vec<(u32, u32)>>, Memory>
+    requires there { hart < length flat.now.harts }
+    requires ordered { IsOrdered flat.now }
+    ensures { IfOk result
+        (λ met. IsToMeet flat.now hart action.now (option_map (λ v. v.items) met)) }
+{
+    match action {
+        Action::Load { operand, .. } => page_to_sync(flat, hart, operand.va),
+        Action::Store { operand, write } => page_to_sync_by(flat, hart, *operand, *write),
+        _ => Ok(None),
+    }
+}
+
+// A hart that runs and is in no try does what it is to do with the word at its pc.
+fn try_word(
+    flat: &mut Flat,
+    journal: &mut Vec<Entry>,
+    hart: u8,
+    arch: &Arch,
+    word: u32,
+) -> Result<(), ObeyFault>
+    requires room { vec_len journal.old + 5 < vec_capacity journal.old }
+    requires rests { IsResting flat.old }
+    requires ready { OfHart flat.old hart
+        (λ state. IsAt flat.old state arch.now.pc word × (state.arch ≡ arch.now)) }
+    ensures ok { OnOk result
+        (Continues flat.old journal.old.items flat.new journal.new.items (IsUnit hart)) }
+    ensures unbuilt { (pc : ℕ) → result ≡ Err (ObeyFault.Unbuilt pc) → IsUnbuilt flat.old hart pc }
+    ensures err { OnErr result ((flat.new ≡ flat.old) × (journal.new.items ≡ journal.old.items)) }
+    ensures rests { IsResting flat.new }
+    ensures harts { length flat.new.harts ≡ length flat.old.harts }
+{
+    let Some(action) = action_of(arch, word) else {
+        return Err(ObeyFault::Unbuilt { pc: arch.pc });
+    };
+    let met = to_meet(flat, hart, &action)?;
+    fetch(flat, journal, hart, arch.pc, word);
+    carry_out(flat, journal, hart, arch, word, action, met);
+    Ok(())
+}
+
+// What a hart that is in no try finds at its pc.
+#[derive(Clone, Copy, Debug, PartialEq, Eq)]
+enum Start {
+    // It has stopped.
+    Stopped,
+    // A word of its text, with its registers.
+    Word { arch: Arch, word: u32 },
+    // A page that is no text.
+    Fault { pc: u64 },
+}
+
+fn start_of(flat: &Flat, hart: u8) -> Start
+    requires { hart < length flat.now.harts }
+    ensures { IsStart flat.now hart result }
+{
+    let state = &flat.harts[hart as usize];
+    if state.life != Life::Running {
+        return Start::Stopped;
+    }
+    let arch = state.arch;
+    match flat.text_word(state.generation, arch.pc) {
+        Some(word) => Start::Word { arch, word },
+        None => Start::Fault { pc: arch.pc },
+    }
+}
+
+// A hart that has stopped idles.
+fn idle(flat: &Flat, journal: &mut Vec<Entry>, hart: u8)
+    requires room { vec_len journal.old < vec_capacity journal.old }
+    requires rests { IsResting flat.now }
+    requires ready { OfHart flat.now hart (λ state. state.life ≢ Running) }
+    ensures { Continues flat.now journal.old.items flat.now journal.new.items (IsUnit hart) }
+{
+    append(journal, hart, Event::Idle);
+}
+
+/// One unit of a hart: a whole instruction or call, a trap, an exit, or an idle where it has
+/// stopped. After an error nothing has changed.
+pub fn step(flat: &mut Flat, journal: &mut Vec<Entry>, hart: u8) -> Result<(), ObeyFault>
+    requires rests { IsResting flat.old }
+    requires there { hart < length flat.old.harts }
+    ensures ok { OnOk result
+        (Continues flat.old journal.old.items flat.new journal.new.items (IsUnit hart)) }
+    ensures unbuilt { (pc : ℕ) → result ≡ Err (ObeyFault.Unbuilt pc) → IsUnbuilt flat.old hart pc }
+    ensures err { OnErr result ((flat.new ≡ flat.old) × (journal.new.items ≡ journal.old.items)) }
+    ensures rests { IsResting flat.new }
+    ensures harts { length flat.new.harts ≡ length flat.old.harts }
+{
+    journal.reserve(MOST)?;
+    match start_of(flat, hart) {
+        Start::Stopped => {
+            idle(flat, journal, hart);
+            Ok(())
+        }
+        Start::Word { arch, word } => try_word(flat, journal, hart, &arch, word),
+        Start::Fault { pc } => {
+            trap(flat, journal, hart, INSTRUCTION_PAGE_FAULT, pc);
+            Ok(())
+        }
+    }
+}

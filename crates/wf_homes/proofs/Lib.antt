@@ -1,0 +1,11 @@
+pub mod ListLemmas
+pub mod TenantLemmas
+pub mod CountLemmas
+pub mod HomeLemmas
+pub mod PlaceLemmas
+pub mod FoundLemmas
+pub mod RecordedLemmas
+pub mod SmallestLemmas
+pub mod SyncLemmas
+pub mod StartLemmas
+pub mod GoneLemmas

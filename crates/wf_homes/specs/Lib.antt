@@ -1,0 +1,5 @@
+pub mod Homes
+pub mod Entries
+pub mod Kept
+pub mod Stands
+pub mod Laws

@@ -1,5 +1,0 @@
-use Rattle.wf_step.proofs.StepLemmas.{idle_made}
-use Rattle.wf_step.proofs.stepping.idle.Goals as goal
-
-pub returns : goal.returns
-returns c = idle_made c.args.flat.now c.args.journal.now.items c.append.new.journal.items c.args.hart c.requires.rests.no_one c.requires.ready c.append.ensures.items

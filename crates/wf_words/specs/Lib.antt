@@ -1,0 +1,3 @@
+pub mod Usages
+pub mod Words
+pub mod Parsed
