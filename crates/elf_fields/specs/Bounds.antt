@@ -2,8 +2,8 @@
 use Rattle.std.specs.Prelude.{◌+◌, ◌-◌, ◌%◌, ◌^◌, ◌==◌, ℤ, pos, neg_ℤ, Bool, true, false, ◌&&◌, Option, Some, None, if◌then◌else◌, int_le, unsigned_abs}
 use Rattle.elf_fields.specs.declared.bounds.Bounds.{Bounds}
 use Rattle.elf_fields.specs.declared.bounds.Bounds.TheVariants.{Any, Word, SignedWord, Branch, Jump, Pair, EvenPair}
-use Rattle.elf_fields.specs.declared.rule.LinkRule.{LinkRule}
-use Rattle.elf_fields.specs.declared.rule.LinkRule.TheVariants.{Odd, Reach}
+use Rattle.patch_rules.specs.declared.links.LinkRule.{LinkRule}
+use Rattle.patch_rules.specs.declared.links.LinkRule.TheVariants.{Odd, Reach}
 
 -- a number from one to another, both included
 abbrev pub is_between : ℤ → ℤ → ℤ → Bool

@@ -2,7 +2,7 @@
 ghost use Rattle.std.specs.Prelude.{◌≡◌};
 ghost use Rattle.elf_fields.specs.Bounds.{is_odd, is_even_only, reaches, refusal_of};
 
-use crate::LinkRule;
+use patch_rules::LinkRule;
 
 /// The values that a relocation takes.
 ///

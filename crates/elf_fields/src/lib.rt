@@ -12,10 +12,8 @@ mod formats;
 mod formula;
 mod numbers;
 mod relocation;
-mod rule;
 
 pub use bounds::Bounds;
 pub use field::Field;
 pub use formula::{Formula, Operands};
 pub use relocation::{Relocation, relocation_of};
-pub use rule::LinkRule;

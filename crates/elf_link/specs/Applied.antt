@@ -7,8 +7,8 @@ use Rattle.elf_fields.specs.declared.bounds.Bounds.TheVariants.{Pair}
 use Rattle.elf_fields.specs.declared.field.Field.{Field}
 use Rattle.elf_fields.specs.declared.relocation.Relocation.{Relocation}
 use Rattle.elf_fields.specs.declared.relocation.Relocation.TheVariants.{Nothing, Put, Paired}
-use Rattle.elf_fields.specs.declared.rule.LinkRule.{LinkRule}
-use Rattle.elf_fields.specs.declared.rule.LinkRule.TheVariants.{Reloc, Offset}
+use Rattle.patch_rules.specs.declared.links.LinkRule.{LinkRule}
+use Rattle.patch_rules.specs.declared.links.LinkRule.TheVariants.{Reloc, Offset}
 use Rattle.elf_fields.specs.Fields.{width_of, put_in}
 use Rattle.elf_fields.specs.Relocations.{relocation_of}
 use Rattle.elf_link.specs.declared.fault.LinkFault.{LinkFault}

@@ -50,6 +50,10 @@ bytes_of file s =
 abbrev pub contents_of : ElfValue → ℕ → List ℕ
 contents_of elf n = option_map_or (bytes_of elf.bytes) (slice_get elf.sections n) []
 
+-- how many bytes the section with this number has
+abbrev pub size_of : ElfValue → ℕ → ℕ
+size_of elf n = option_map_or (λ s. s.sh_size) (slice_get elf.sections n) 0
+
 -- each section that is loaded ends at or below the first address past those of data
 abbrev pub AreLow : List (Option ℕ) → List Section → Type 0
 AreLow places sections = (n place : ℕ) (s : Section)

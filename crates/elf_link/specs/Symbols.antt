@@ -3,8 +3,8 @@ use Rattle.std.specs.Prelude.{ℕ, ◌+◌, ◌/◌, ◌%◌, ◌^◌, ◌==◌,
 use Rattle.std.specs.Option.{option_map_or}
 use Rattle.elf_read.specs.declared.records.Symbol.{Symbol}
 use Rattle.elf_read.specs.declared.constants.TheConstants.{SHN_UNDEF, SHN_ABS}
-use Rattle.elf_fields.specs.declared.rule.LinkRule.{LinkRule}
-use Rattle.elf_fields.specs.declared.rule.LinkRule.TheVariants.{NoSymbol, Several}
+use Rattle.patch_rules.specs.declared.links.LinkRule.{LinkRule}
+use Rattle.patch_rules.specs.declared.links.LinkRule.TheVariants.{NoSymbol, Several}
 use Rattle.elf_syms.specs.declared.found.Found.{Found}
 use Rattle.elf_syms.specs.declared.found.Found.TheVariants as found
 use Rattle.elf_syms.specs.Names.{found_for}

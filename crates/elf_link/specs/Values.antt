@@ -7,8 +7,8 @@ use Rattle.elf_fields.specs.declared.bounds.Bounds.{Bounds}
 use Rattle.elf_fields.specs.declared.constants.TheConstants.{R_RISCV_PCREL_HI20}
 use Rattle.elf_fields.specs.declared.formula.Formula.{Formula}
 use Rattle.elf_fields.specs.declared.formula.Formula.TheVariants.{Relative}
-use Rattle.elf_fields.specs.declared.rule.LinkRule.{LinkRule}
-use Rattle.elf_fields.specs.declared.rule.LinkRule.TheVariants.{NoPair}
+use Rattle.patch_rules.specs.declared.links.LinkRule.{LinkRule}
+use Rattle.patch_rules.specs.declared.links.LinkRule.TheVariants.{NoPair}
 use Rattle.elf_fields.specs.Bounds.{refusal_of}
 use Rattle.elf_fields.specs.Formulas.{value_of}
 use Rattle.elf_link.specs.Links.{LinkValue, place_in, relas_in}

@@ -11,8 +11,9 @@ ghost use Rattle.elf_link.specs.Results.{Leaves};
 use crate::linking::Linking;
 use crate::values::within;
 use byteorder::{ByteOrder, LittleEndian};
-use elf_fields::{Bounds, Field, Formula, LinkRule, Relocation, relocation_of};
+use elf_fields::{Bounds, Field, Formula, Relocation, relocation_of};
 use elf_read::Rela;
+use patch_rules::LinkRule;
 
 // The number in the field at a place.
 fn number_in(field: Field, bytes: &[u8], at: u64) -> u64

@@ -1,5 +1,5 @@
 //! Why a section is not relocated.
-use elf_fields::LinkRule;
+use patch_rules::LinkRule;
 use std::alloc::{AllocError, AllocFailed};
 use wf_outside::Memory as OutOfMemory;
 

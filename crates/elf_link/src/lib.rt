@@ -13,7 +13,6 @@ mod relocating;
 mod symbols;
 mod values;
 
-pub use elf_fields::LinkRule;
 pub use fault::LinkFault;
 pub use places::are_low;
 pub use relocating::relocate;

@@ -1,8 +1,8 @@
 //! A section is relocated.
-ghost use Rattle.std.specs.Prelude.{◌≡◌, ◌<◌, ◌≤◌, ◌+◌, ◌^◌, Some, Ok, All, IsSome, IfOk, IfErr, length};
+ghost use Rattle.std.specs.Prelude.{◌≡◌, ◌<◌, ◌≤◌, ◌+◌, ◌^◌, Some, Ok, All, IsSome, IfOk, IfErr, length, vec_len};
 ghost use Rattle.elf_read.specs.Relas.{IsRooted, symbol_number};
 ghost use Rattle.elf_link.specs.Applied.{group_applied, all_applied, relocated, IsFaultOf};
-ghost use Rattle.elf_link.specs.Links.{link_of, place_of, place_in, AreLow};
+ghost use Rattle.elf_link.specs.Links.{link_of, place_of, place_in, size_of, AreLow};
 ghost use Rattle.elf_link.specs.Results.{Leaves};
 
 use crate::LinkFault;
@@ -68,6 +68,8 @@ pub fn relocate(
     requires all { length places.now ≡ length object.now.sections }
     requires loaded { IsSome (place_of places.now section) }
     requires low { AreLow places.now object.now.sections }
+    // They are as many as the section has.
+    ensures size { IfOk result (λ bytes. vec_len bytes ≡ size_of object.now section) }
     // The bytes are those of the definition, where it has some, and the fault is its fault, unless
     // memory ran out.
     ensures bytes { IfOk result

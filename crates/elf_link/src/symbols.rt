@@ -5,10 +5,10 @@ ghost use Rattle.elf_link.specs.Symbols.{is_weak, found_address, undefined_addre
 
 use crate::linking::Linking;
 use crate::places::place_of;
-use elf_fields::LinkRule;
 use elf_read::Symbol;
 use elf_read::constants::{SHN_ABS, SHN_UNDEF};
 use elf_syms::Found;
+use patch_rules::LinkRule;
 
 /// The binding of a weak symbol.
 ///

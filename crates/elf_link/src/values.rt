@@ -4,8 +4,9 @@ ghost use Rattle.elf_read.specs.Relas.{symbol_number};
 ghost use Rattle.elf_link.specs.Values.{formula_value, high_at, without_addend, paired_value, within};
 
 use crate::linking::Linking;
-use elf_fields::{Bounds, Formula, LinkRule, Operands};
+use elf_fields::{Bounds, Formula, Operands};
 use elf_read::Rela;
+use patch_rules::LinkRule;
 
 // The value, where the bounds have it.
 pub fn within(bounds: Bounds, value: i128) -> Result<i128, LinkRule>

@@ -82,8 +82,8 @@ fn fill_words(bytes: &[u8], words: &mut [u64])
     LittleEndian::read_u64_into(bytes, words);
 }
 
-// The words in the bytes of a page.
-fn words_of(alloc: Global, bytes: &[u8]) -> Result<Vec<u64>, Memory>
+/// The words in the bytes of a page, the lowest byte of each first.
+pub fn words_of(alloc: Global, bytes: &[u8]) -> Result<Vec<u64>, Memory>
     requires { length bytes.now ≡ PAGE_SIZE }
     ensures words { IfOk result (λ words. words.items ≡ words_in PAGE_WORDS bytes.now) }
     ensures len { IfOk result (λ words. length words.items ≡ PAGE_WORDS) }

@@ -13,5 +13,6 @@ mod rules;
 mod segments;
 
 pub use fault::LoadFault;
+pub use filling::words_of;
 pub use laws::parts_stand_at_their_addresses;
 pub use loading::load;

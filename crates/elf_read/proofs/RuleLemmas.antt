@@ -15,7 +15,7 @@ use Rattle.wf_outside.specs.declared.rules.ElfRule.TheVariants.{Range, Strings, 
 use Rattle.elf_read.specs.declared.symbols.SymbolTable.{SymbolTable}
 use Rattle.elf_read.specs.declared.constants.TheConstants.{EHSIZE, PHENTSIZE, SHENTSIZE, SYMENTSIZE, PT_LOAD, SHT_SYMTAB, SHT_STRTAB}
 use Rattle.elf_read.specs.Elf.{segment_place, FitsFile, IsInFile, IsNamed}
-use Rattle.elf_read.specs.Records.{segment_at, section_at, is_symtab, symbol_table, header_of, segments_of, sections_of, symbols_of}
+use Rattle.elf_read.specs.Records.{segment_at, section_at, symbol_at, is_symtab, symbol_table, header_of, segments_of, sections_of, symbols_of}
 use Rattle.elf_read.specs.declared.records.Segment.{Segment}
 use Rattle.elf_read.specs.declared.records.Section.{Section}
 use Rattle.elf_read.specs.declared.records.Symbol.{Symbol}
@@ -246,6 +246,10 @@ headers_in bytes h segments is room are i l =
     let count : length segments ≡ h.e_phnum = ap length are ∙ length-map-range_with_len (λ i. segment_at bytes (h.e_phoff + PHENTSIZE * i)) 0 h.e_phnum in
     let room : h.e_phoff + PHENTSIZE * h.e_phnum ≤ length bytes = room.segments (omega arith) in
     omega arith
+
+-- how many symbols there are
+pub symbols_count : (bytes : List ℕ) (t : SymbolTable) (symbols : List Symbol) → symbols ≡ symbols_of bytes t → length symbols ≡ t.count
+symbols_count bytes t symbols are = ap length are ∙ length-map-range_with_len (λ i. symbol_at bytes t.names (t.at + SYMENTSIZE * i)) 0 t.count
 
 -- how many sections there are
 pub sections_count : (bytes : List ℕ) (h : Header) (sections : List Section) → sections ≡ sections_of bytes h → length sections ≡ h.e_shnum

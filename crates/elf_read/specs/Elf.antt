@@ -63,6 +63,8 @@ HasHome sections s = (s.st_shndx < sections) ⊎ (SHN_LORESERVE ≤ s.st_shndx)
 pub record IsKept (bytes : List ℕ) (h : Header) (segments : List Segment) (sections : List Section)
     (symbols : List Symbol) (relas : List RelaGroupValue) : Type 0 where
   pub few : length bytes < 2 ^ 32
+  pub few_sections : length sections < 2 ^ 32
+  pub few_symbols : length symbols < 2 ^ 32
   pub header : h ≡ header_of bytes
   pub places : EachIndex segments (λ i. segment_place bytes i + PHENTSIZE ≤ length bytes)
   pub fit : All (FitsFile (length bytes)) segments

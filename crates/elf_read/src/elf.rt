@@ -111,6 +111,7 @@ impl Elf {
         ensures value { result.now ≡ self.now.sections }
         // A section lies in the file, unless it is of type NULL or NOBITS.
         ensures lie { All (LiesInFile (length self.now.bytes)) self.now.sections }
+        ensures few { length self.now.sections < 2 ^ 32 }
     {
         self.tables.sections.as_slice()
     }
@@ -122,6 +123,7 @@ impl Elf {
         ensures named { All (IsNamed (length self.now.bytes)) self.now.symbols }
         // The section of each is there, or its number is SHN_LORESERVE or above.
         ensures homes { All (HasHome (length self.now.sections)) self.now.symbols }
+        ensures few { length self.now.symbols < 2 ^ 32 }
     {
         self.tables.symbols.as_slice()
     }

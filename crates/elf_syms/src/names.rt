@@ -33,7 +33,7 @@ impl Names {
     pub fn new(alloc: Global, image: &Image) -> Result<Names, Memory>
         ensures { IfOk result (λ names. FindsAs names (image_names image.now.names)) }
     {
-        let mut names = Names::empty(alloc);
+        let mut names = Names::none(alloc);
         names.put(&image.names, Among::Locals)?;
         names.put(&image.names, Among::Globals)?;
         Ok(names)
@@ -56,8 +56,8 @@ impl Names {
         told_of(own, name).or_else(found_at(&self.entries, name))
     }
 
-    // No names.
-    fn empty(alloc: Global) -> Names
+    /// No names.
+    pub fn none(alloc: Global) -> Names
         ensures { FindsAs result no_names }
     {
         Names {

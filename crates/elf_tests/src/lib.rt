@@ -5,8 +5,6 @@
 #[cfg(test)]
 mod building;
 #[cfg(test)]
-mod loading;
-#[cfg(test)]
 mod objects;
 #[cfg(test)]
 mod outside;

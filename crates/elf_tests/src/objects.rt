@@ -1,14 +1,14 @@
-//! Objects that are written, read back, and broken: places and lengths are worked out by hand.
-ghost use Rattle.std.specs.Prelude.{◌<◌, ◌^◌, IfOk, length, vec_len};
+//! Objects that are written and read back: places and lengths are worked out by hand.
+ghost use Rattle.std.specs.Prelude.{◌<◌, ◌^◌, IfOk, vec_len};
 
 use crate::writing::{symbol, text_only};
 use elf_laws::{files_are_apart, modules_are_read_back};
-use elf_read::{Elf, ElfFault, Kind, Rela};
+use elf_read::{Elf, Kind, Rela};
 use elf_write::{Form, ModRela, ModSymbol, Module, write};
 use std::alloc::Global;
 use std::process::Abort;
 use std::test::Fail;
-use wf_outside::{ElfRule, Memory};
+use wf_outside::Memory;
 
 // How many bytes the object has.
 const SIZE: u64 = 1008;
@@ -153,93 +153,6 @@ fn object_relocations(rt: HostRuntime) -> Result<(), Fail> {
     assert_eq!(rt; (second.section, second.target), (6, 3));
     assert!(rt; second.relas.as_slice() == data.as_slice());
     assert_eq!(rt; (text[1].symbol(), text[1].kind()), (1, 23));
-    Ok(())
-}
-
-// So many bytes of a number at a place, the lowest first.
-#[derive(Clone, Copy, Debug)]
-struct Field(usize, usize, u64);
-
-// A change that does nothing: the first byte is 7F.
-const SAME: Field = Field(0, 1, 0x7F);
-
-// A number is put into a place, where that is there.
-fn put(bytes: &mut [u8], field: Field) {
-    let Field(at, width, value) = field;
-    for (i, byte) in value.to_le_bytes().iter().take(width).enumerate() {
-        if let Some(place) = bytes.get_mut(at.saturating_add(i)) {
-            *place = *byte;
-        }
-    }
-}
-
-// What the object's file is answered with after two changes.
-fn after(
-    alloc: Global,
-    file: &[u8],
-    first: Field,
-    second: Field,
-) -> Result<Option<ElfFault>, Memory>
-    requires { length file.now < 2 ^ 32 }
-{
-    let mut bytes = file.to_vec(alloc)?;
-    put(&mut bytes, first);
-    put(&mut bytes, second);
-    Ok(Elf::read(alloc, bytes, Kind::Rel).err())
-}
-
-fn table(at: u64) -> Option<ElfFault> {
-    Some(ElfFault::Rule {
-        rule: ElfRule::Table,
-        at,
-    })
-}
-
-#[test]
-fn broken_objects(rt: HostRuntime) -> Result<(), Fail> {
-    let file = file_of(&rt, rt.alloc(), &object(rt.alloc())?, SIZE)?;
-    let cases = [
-        (SAME, SAME, None),
-        // .rodata as a section without addends, and of a type that nobody knows
-        (Field(500, 4, 9), SAME, table(496)),
-        (Field(500, 4, 19), SAME, None),
-        // .rela.text: sh_entsize, sh_size, sh_link, sh_info
-        (Field(744, 8, 23), SAME, table(688)),
-        (Field(720, 8, 47), SAME, table(688)),
-        (Field(720, 8, 24), SAME, None),
-        (Field(728, 4, 8), SAME, table(688)),
-        (Field(728, 4, 10), SAME, table(688)),
-        (Field(732, 4, 10), SAME, table(688)),
-        (Field(732, 4, 9), SAME, None),
-        // the symbols of entries
-        (Field(108, 4, 4), SAME, table(96)),
-        (Field(132, 4, 4), SAME, table(120)),
-        (Field(156, 4, u64::MAX), SAME, table(144)),
-        (Field(108, 4, 3), Field(132, 4, 0), None),
-        // a section's header before its entries, and those before the next section
-        (Field(132, 4, 4), Field(732, 4, 10), table(688)),
-        (Field(132, 4, 4), Field(796, 4, 10), table(120)),
-        // each symbol's section before them
-        (Field(500, 4, 9), Field(198, 2, 10), table(192)),
-    ];
-    for (first, second, wanted) in cases {
-        let found = after(rt.alloc(), &file, first, second)?;
-        assert_eq!(rt; found, wanted, "{first:?} {second:?}");
-    }
-    Ok(())
-}
-
-#[test]
-fn kinds(rt: HostRuntime) -> Result<(), Fail> {
-    let kind = Some(ElfFault::Rule {
-        rule: ElfRule::Kind,
-        at: 16,
-    });
-    let bytes = file_of(&rt, rt.alloc(), &object(rt.alloc())?, SIZE)?;
-    assert_eq!(rt; Elf::read(rt.alloc(), bytes, Kind::Exec).err(), kind);
-    let module = text_only(rt.alloc(), Vec::new(rt.alloc()));
-    let bytes = file_of(&rt, rt.alloc(), &module, 664)?;
-    assert_eq!(rt; Elf::read(rt.alloc(), bytes, Kind::Rel).err(), kind);
     Ok(())
 }
 

@@ -1,7 +1,8 @@
 //! Entries that meet: differences of labels, pairs of entries, the order of all, and sections
 //! without bytes in the file.
 use crate::objects::{ABSENT, Entry, FAR, HERE, MEMORY, SECOND, THIRD, TWIN, ZERO, relocated};
-use elf_link::{LinkFault, LinkRule};
+use elf_link::LinkFault;
+use patch_rules::LinkRule;
 use std::alloc::{AllocError, Global};
 use std::process::Abort;
 use std::test::Fail;

@@ -3,7 +3,8 @@ use crate::objects::{
     ABSENT, BOTH, COMMON, Entry, FAR, HERE, HIGHEST, MEMORY, NAMELESS, THIRD, TWIN, UNLOADED, WEAK,
     WRAPPED, ZERO, relocated,
 };
-use elf_link::{LinkFault, LinkRule};
+use elf_link::LinkFault;
+use patch_rules::LinkRule;
 use std::alloc::Global;
 use std::process::Abort;
 use std::test::Fail;

@@ -9,7 +9,7 @@ use Rattle.wf_status.specs.declared.entries.EntryRule.{EntryRule}
 use Rattle.wf_status.specs.declared.rules.ImageRule.{ImageRule}
 use Rattle.wf_status.specs.declared.status.LimitKind.TheVariants.{File, Units, Patches, Frames}
 use Rattle.wf_status.specs.declared.status.Status.{Status}
-use Rattle.wf_status.specs.declared.status.Status.TheVariants.{Done, Words, Image, Script, Source, Journal, Shelf, Sink, Memory, Limit, Illegal, Unbuilt}
+use Rattle.wf_status.specs.declared.status.Status.TheVariants.{Done, Words, Image, Patch, Script, Source, Journal, Shelf, Sink, Memory, Limit, Illegal, Unbuilt}
 use Rattle.wf_status.specs.declared.status.Unbuilt.TheVariants as unbuilt
 use Rattle.wf_fetch.specs.Held.{HoldsBytes, HoldsWithin, IsLongerThan, max_file, max_journal}
 use Rattle.wf_fetch.specs.Loaded.{HoldsImage, image_fault, loaded}
@@ -55,6 +55,7 @@ journal_cases image journal Words p = absurd p
 journal_cases image journal (Image rule at) p = absurd p
 journal_cases image journal (Script line column) p = absurd p
 journal_cases image journal (Source rule line) p = absurd p
+journal_cases image journal (Patch patch fault) p = absurd p
 journal_cases image journal (Journal line) p = absurd p
 journal_cases image journal Shelf p = absurd p
 journal_cases image journal Sink p = absurd p
@@ -161,6 +162,7 @@ bytes_cases image bytes Words p = inr p
 bytes_cases image bytes (Image rule at) p = inr p
 bytes_cases image bytes (Script line column) p = inr p
 bytes_cases image bytes (Source rule line) p = inr p
+bytes_cases image bytes (Patch patch fault) p = inr p
 bytes_cases image bytes Shelf p = inr p
 bytes_cases image bytes Sink p = inr p
 bytes_cases image bytes Memory p = inr p
@@ -257,6 +259,7 @@ check_cases image journal Done p = inr (inr p)
 check_cases image journal Words p = inr (inr p)
 check_cases image journal (Script line column) p = inr (inr p)
 check_cases image journal (Source rule line) p = inr (inr p)
+check_cases image journal (Patch patch fault) p = inr (inr p)
 check_cases image journal Shelf p = inr (inr p)
 check_cases image journal Sink p = inr (inr p)
 check_cases image journal Memory p = inr (inr p)

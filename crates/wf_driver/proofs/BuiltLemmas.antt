@@ -2,7 +2,7 @@
 use Rattle.std.proofs.Common.{◌++◌, List, [], ◌∷◌}
 use Rattle.wf_flat.specs.declared.event.Entry.{Entry}
 use Rattle.wf_legal.specs.Legal.{Moment, after, end_of}
-use Rattle.wf_legal.specs.Built.{IsBuilt}
+use Rattle.wf_follow.specs.Built.{IsBuilt}
 
 -- both are built
 pub built-append : (m : Moment) (es fs : List Entry) → IsBuilt m es → IsBuilt (end_of m es) fs → IsBuilt m (es ++ fs)

@@ -24,7 +24,7 @@ use Rattle.wf_verdict.specs.Work.{done_about}
 use Rattle.wf_legal.specs.Calls.{Doing, GoesOn, IsNext, Settling, call_behind, closes_hart_call, ending_of, later, may_go, settled_with, todo_by, todo_of, todo_with}
 use Rattle.wf_legal.specs.Events.{flat_after}
 use Rattle.wf_legal.specs.Legal.{Moment, Allows, IsLegal, after, call_after, at_rest}
-use Rattle.wf_legal.specs.Built.{StandsAtBuilt}
+use Rattle.wf_follow.specs.Built.{StandsAtBuilt}
 use Rattle.wf_legal.proofs.JournalLemmas.{self_inside}
 use Rattle.wf_driver.specs.Stepping.{IsActing, IsToDo, HasBegun, Continues}
 use Rattle.wf_flat.proofs.ListLemmas.{some_and, and_some}

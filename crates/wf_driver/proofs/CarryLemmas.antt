@@ -18,7 +18,7 @@ use Rattle.rv_inst.specs.declared.want.Want.{Want}
 use Rattle.wf_flat.specs.Refusals.{refused_answer}
 use Rattle.wf_flat.specs.Steps.{OfHart, Ask, Called, Stopped, inst_in, want_in, is_lost, ask_by, ask_of_word, ask_of_want, arch_by, arch_after, call_answer, generation_text}
 use Rattle.wf_flat.specs.Changes.{answered, fetched_with}
-use Rattle.wf_legal.specs.Built.{IsUnbuilt, IsUnbuiltInst, IsUnbuiltWord, is_built_call}
+use Rattle.wf_follow.specs.Built.{IsUnbuilt, IsUnbuiltInst, IsUnbuiltWord, is_built_call}
 use Rattle.wf_verdict.specs.declared.work.Todo.TheVariants.{Exactly}
 use Rattle.wf_legal.specs.Calls.{todo_by, todo_of, todo_of_call}
 use Rattle.wf_driver.specs.declared.actions.Action.TheVariants.{Run, Trap, Exit, Out, OwnGeneration, Refuse}

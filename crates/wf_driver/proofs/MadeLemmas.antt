@@ -5,7 +5,7 @@ use Rattle.wf_flat.specs.declared.event.Entry.{Entry}
 use Rattle.wf_flat.specs.State.{FlatState}
 use Rattle.wf_flat.specs.Follows.{IsUnit}
 use Rattle.wf_legal.specs.Legal.{Moment, at_rest, end_of}
-use Rattle.wf_legal.specs.Built.{IsUnbuilt}
+use Rattle.wf_follow.specs.Built.{IsUnbuilt}
 use Rattle.wf_legal.proofs.JournalLemmas.{legal-append, end_of-append}
 use Rattle.wf_script.specs.declared.command.Command.{Command}
 use Rattle.wf_script.specs.declared.command.Command.TheVariants.{Step, Run, Regs, Mem}

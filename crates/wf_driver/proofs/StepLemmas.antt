@@ -22,7 +22,7 @@ use Rattle.wf_legal.specs.Events.{flat_after}
 use Rattle.wf_flat.specs.Changes.{change_hart, change_page, leave_hart, note_page, without, fetched_with, ended, answered, given_back, give_back, give_back_by, give_back_of}
 use Rattle.wf_legal.specs.Calls.{GoesOn}
 use Rattle.wf_legal.specs.Legal.{Moment, Allows, IsLegal, after, end_of, at_rest}
-use Rattle.wf_legal.specs.Built.{IsBuilt, IsUnbuilt, StandsAtBuilt}
+use Rattle.wf_follow.specs.Built.{IsBuilt, IsUnbuilt, StandsAtBuilt}
 use Rattle.wf_flat.specs.Follows.{IsUnit, ends_unit}
 use Rattle.wf_driver.specs.Stepping.{IsResting, IsActing, IsSettled, IsAt, IsDone, IsOpen, HasBegun, Continues}
 use Rattle.wf_legal.proofs.JournalLemmas.{legal-append, end_of-append, self_inside}

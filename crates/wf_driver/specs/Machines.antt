@@ -5,7 +5,7 @@ use Rattle.wf_outside.specs.Pages.{LimitsValue}
 use Rattle.wf_flat.specs.declared.event.Entry.{Entry}
 use Rattle.wf_flat.specs.Boot.{boot_of}
 use Rattle.wf_flat.specs.State.{FlatState}
-use Rattle.wf_legal.specs.Built.{IsBuilt}
+use Rattle.wf_follow.specs.Built.{IsBuilt}
 use Rattle.wf_legal.specs.Legal.{IsLegal, at_rest, end_of}
 use Rattle.wf_script.specs.declared.command.Command.{Command}
 use Rattle.wf_report.specs.Listings.{ListingValue}

@@ -28,7 +28,7 @@ use Rattle.wf_legal.specs.Calls.{todo_by}
 use Rattle.wf_flat.specs.declared.event.Entry.{Entry}
 use Rattle.wf_flat.specs.State.{FlatState, HartState, PageState}
 use Rattle.wf_legal.specs.Legal.{IsLegal, end_of, at_rest}
-use Rattle.wf_legal.specs.Built.{IsBuilt}
+use Rattle.wf_follow.specs.Built.{IsBuilt}
 use Rattle.wf_flat.specs.Follows.{ends_unit}
 use Rattle.wf_driver.specs.declared.finding.Found.{Found}
 use Rattle.wf_driver.specs.declared.stepping.Start.{Start}

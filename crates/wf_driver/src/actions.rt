@@ -4,9 +4,9 @@ ghost use Rattle.rv_inst.specs.declared.causes.TheConstants.{ILLEGAL_INSTRUCTION
 ghost use Rattle.rv_inst.specs.Decoding.{inst_of};
 ghost use Rattle.rv_inst.specs.Spelling.{IsSpelled};
 ghost use Rattle.rv_inst.specs.Meanings.{want_of, meaning_of};
-ghost use Rattle.wf_legal.specs.Built as built;
+ghost use Rattle.wf_follow.specs.Built as built;
 ghost use Rattle.wf_flat.specs.State.{HartState};
-ghost use Rattle.wf_legal.specs.Built.{IsUnbuiltInst};
+ghost use Rattle.wf_follow.specs.Built.{IsUnbuiltInst};
 ghost use Rattle.wf_driver.specs.Stepping.{IsAction};
 
 use rv_alu::AmoOp;

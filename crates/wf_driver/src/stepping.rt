@@ -13,7 +13,7 @@ ghost use Rattle.wf_flat.specs.Changes.{fetched_with, answered};
 ghost use Rattle.wf_verdict.specs.declared.work.Todo.TheVariants.{Exactly};
 ghost use Rattle.wf_flat.specs.Ordered.{IsOrdered};
 ghost use Rattle.wf_flat.specs.Follows.{IsUnit};
-ghost use Rattle.wf_legal.specs.Built.{IsUnbuilt};
+ghost use Rattle.wf_follow.specs.Built.{IsUnbuilt};
 ghost use Rattle.wf_driver.specs.Stepping.{IsStart, IsResting, IsActing, IsAt, IsInTry, IsToDo, IsToMeet, IsDone, IsAction, HasBegun, Continues};
 
 use crate::actions::{Action, action_of};

@@ -2,3 +2,4 @@ pub mod Held
 pub mod Loaded
 pub mod Fetching
 pub mod Reading
+pub mod Stages

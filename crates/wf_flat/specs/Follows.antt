@@ -1,5 +1,5 @@
 -- How a journal follows a script: in units, each a whole try of a hart.
-use Rattle.std.specs.Prelude.{ℕ, zero, suc, List, [], ◌∷◌, ◌++◌, Bool, true, false, ◌≡◌, MatchBool}
+use Rattle.std.specs.Prelude.{ℕ, List, [], ◌∷◌, Bool, true, false, ◌≡◌, MatchBool}
 use Rattle.wf_flat.specs.declared.event.Actor.TheVariants.{Hart}
 use Rattle.wf_flat.specs.declared.event.Event.{Event}
 use Rattle.wf_flat.specs.declared.event.Event.TheVariants.{End, Trap, Exit, Again, Wait, Idle}
@@ -20,16 +20,3 @@ abbrev pub IsUnit : ℕ → List Entry → Type 0
 IsUnit h [] = ⊥
 IsUnit h (entry ∷ entries) =
     (entry.actor ≡ Hart h) × MatchBool (ends_unit entry.event) (entries ≡ []) (IsUnit h entries)
-
--- the parts of a list
-pub record Splits {A : Type 0} (whole : List A) (P Q : List A → Type 0) : Type 0 where
-  pub front : List A
-  pub back : List A
-  pub joined : whole ≡ front ++ back
-  pub at_front : P front
-  pub at_back : Q back
-
--- so many units of a hart, one after another
-abbrev pub AreUnits : ℕ → ℕ → List Entry → Type 0
-AreUnits h zero entries = entries ≡ []
-AreUnits h (suc n) entries = Splits entries (IsUnit h) (AreUnits h n)

@@ -2,7 +2,7 @@
 use Rattle.std.proofs.Common.{◌≡◌, ◌++◌, List, [], ◌∷◌, subst}
 use Rattle.wf_flat.specs.declared.event.Entry.{Entry}
 use Rattle.wf_legal.specs.Legal.{Moment, IsLegal, after, end_of}
-use Rattle.wf_legal.specs.Built.{IsBuilt}
+use Rattle.wf_follow.specs.Built.{IsBuilt}
 use Rattle.wf_legal.proofs.JournalLemmas.{legal_front, legal_back}
 
 -- both are built

@@ -27,7 +27,7 @@ use Rattle.wf_verdict.specs.declared.work.Todo.{Todo}
 use Rattle.wf_verdict.specs.declared.work.Todo.TheVariants.{Exactly, Leaves}
 use Rattle.wf_verdict.specs.Requests.{requested_by}
 use Rattle.wf_legal.specs.Calls.{Call, Doing, IsNext, Settling, access_trap, later, settled_with, todo_by, todo_of, todo_of_access, todo_of_call, todo_of_page, todo_with}
-use Rattle.wf_legal.specs.Built.{IsUnbuiltInst, is_built_call}
+use Rattle.wf_follow.specs.Built.{IsUnbuiltInst, is_built_call}
 use Rattle.wf_follow.proofs.RequestLemmas.{wants_call, request_exit, request_out, request_own, request_none}
 
 -- the events of the calls that are built, behind their Enter, but for Again

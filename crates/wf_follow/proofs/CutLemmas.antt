@@ -13,7 +13,7 @@ use Rattle.wf_flat.specs.Steps.{MayAct, generation_text, is_inside}
 use Rattle.wf_flat.specs.Follows.{IsUnit}
 use Rattle.wf_legal.specs.Calls.{GoesOn}
 use Rattle.wf_legal.specs.Legal.{Moment, Allows}
-use Rattle.wf_legal.specs.Built.{IsUnbuiltWord, StandsAtBuilt}
+use Rattle.wf_follow.specs.Built.{IsUnbuiltWord, StandsAtBuilt}
 use Rattle.wf_next.specs.Determined.{HartsAreDetermined}
 use Rattle.wf_script.specs.declared.command.Command.{Command}
 use Rattle.wf_script.specs.declared.command.Command.TheVariants.{Step, Run, Regs, Mem}

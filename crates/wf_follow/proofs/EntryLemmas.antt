@@ -24,7 +24,7 @@ use Rattle.wf_verdict.specs.declared.work.Todo.TheVariants.{Exactly, Leaves}
 use Rattle.wf_legal.specs.Events.{flat_after}
 use Rattle.wf_legal.specs.Calls.{Call, Doing, GoesOn, Settles, Settling, call_behind, closes_hart_call, may_go, todo_by}
 use Rattle.wf_legal.specs.Legal.{Moment, Allows, after, call_after}
-use Rattle.wf_legal.specs.Built.{StandsAtBuilt}
+use Rattle.wf_follow.specs.Built.{StandsAtBuilt}
 use Rattle.wf_next.specs.Determined.{HartsAreDetermined, IsOwn, IsUndisturbed, LeavesAreGoing}
 use Rattle.wf_flat.proofs.ListLemmas.{some_and, and_some}
 use Rattle.wf_legal.proofs.JournalLemmas.{self_inside}

@@ -16,7 +16,7 @@ use Rattle.wf_flat.specs.Accesses.{Access, generation_text, holds}
 use Rattle.wf_flat.specs.Serving.{AllBut}
 use Rattle.wf_flat.specs.Steps.{MayAct, MayFetch, MayTake, access_in, ask_of}
 use Rattle.wf_flat.specs.Changes.{without, change_hart, change_page, leave_hart, note_page, noted, noted_in, page_taken, fetched_with, looked_with, put_with, given_back, written_by, swapped_by, missed, answered, ended, give_back_by, give_back_of, bytes_put, bytes_swapped, entered, page_met, try_ended}
-use Rattle.wf_legal.specs.Built.{IsUnbuilt, IsUnbuiltWord}
+use Rattle.wf_follow.specs.Built.{IsUnbuilt, IsUnbuiltWord}
 use Rattle.wf_flat.proofs.ListLemmas.{some_and, and_some, others_same}
 use Rattle.wf_legal.proofs.JournalLemmas.{self_inside}
 use Rattle.wf_next.proofs.ActLemmas.{at_some}

@@ -6,7 +6,7 @@ use Rattle.wf_outside.specs.Pages.{LimitsValue}
 use Rattle.wf_flat.specs.declared.event.Event.{Event}
 use Rattle.wf_flat.specs.declared.event.Event.TheVariants.{Again, Wait}
 use Rattle.wf_flat.specs.declared.event.Entry.{Entry}
-use Rattle.wf_legal.specs.Built.{IsBuilt}
+use Rattle.wf_follow.specs.Built.{IsBuilt}
 use Rattle.wf_legal.specs.Legal.{IsLegal}
 use Rattle.wf_script.specs.declared.command.Command.{Command}
 use Rattle.wf_script.specs.Commands.{ScriptValue}

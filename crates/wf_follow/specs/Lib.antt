@@ -1,3 +1,4 @@
+pub mod Built
 pub mod Places
 pub mod Units
 pub mod Requests

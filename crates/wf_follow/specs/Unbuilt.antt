@@ -2,7 +2,7 @@
 use Rattle.std.specs.Prelude.{ℕ, List, [], ◌∷◌, ◌++◌, Bool, true, false, Option, Some, None, ◌≡◌, ◌<◌, if◌then◌else◌, IsSomeAnd}
 use Rattle.std.specs.List.{AllByRecursion}
 use Rattle.wf_flat.specs.declared.event.Entry.{Entry}
-use Rattle.wf_legal.specs.Built.{IsBuilt, IsUnbuilt}
+use Rattle.wf_follow.specs.Built.{IsBuilt, IsUnbuilt}
 use Rattle.wf_legal.specs.Legal.{IsLegal, Moment}
 use Rattle.wf_script.specs.declared.command.Command.{Command}
 use Rattle.wf_script.specs.declared.command.Command.TheVariants.{Step, Tick, Run, Patch, Create, Delete, Tables, Regs, Mem}

@@ -1,4 +1,3 @@
 pub mod Events
 pub mod Calls
 pub mod Legal
-pub mod Built

@@ -5,7 +5,7 @@ use Rattle.std.specs.List.{AllByRecursion}
 use Rattle.wf_outside.specs.Images.{ImageValue}
 use Rattle.wf_flat.specs.declared.event.Entry.{Entry}
 use Rattle.wf_flat.specs.Boot.{boot_hart, boot_harts}
-use Rattle.wf_legal.specs.Built.{IsBuilt}
+use Rattle.wf_follow.specs.Built.{IsBuilt}
 use Rattle.wf_legal.specs.Legal.{IsLegal, Moment, after, at_rest, end_of}
 use Rattle.wf_legal.proofs.JournalLemmas.{end_of-append, legal-append}
 use Rattle.wf_script.specs.declared.command.Command.{Command}

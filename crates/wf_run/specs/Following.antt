@@ -2,7 +2,7 @@
 use Rattle.std.specs.Prelude.{ℕ, List, [], ◌∷◌, ◌++◌, ◌≡◌, ◌<◌, ◌≤◌}
 use Rattle.wf_outside.specs.Images.{ImageValue}
 use Rattle.wf_flat.specs.declared.event.Entry.{Entry}
-use Rattle.wf_legal.specs.Built.{IsBuilt}
+use Rattle.wf_follow.specs.Built.{IsBuilt}
 use Rattle.wf_legal.specs.Legal.{IsLegal, at_rest, end_of}
 use Rattle.wf_script.specs.declared.command.Command.{Command}
 use Rattle.wf_script.specs.Commands.{ScriptValue}

@@ -35,7 +35,7 @@ marked_raised v w x i raise t e f =
     ∙ ap (λ (b : Bool). with_frame v i (marked v.last_birth b)) (sym t)
 
 -- the state of another frame stays
-other_state : (fs : List Frame) (i n : ℕ) (g : Frame → Frame) (st : FrameState) → i ≢ n → HasState fs n st → HasState (changed_at fs i g) n st
+pub other_state : (fs : List Frame) (i n : ℕ) (g : Frame → Frame) (st : FrameState) → i ≢ n → HasState fs n st → HasState (changed_at fs i g) n st
 other_state [] i n g st apart has = has
 other_state (f ∷ fs) zero zero g st apart has = absurd (apart refl)
 other_state (f ∷ fs) zero (suc n) g st apart has = has

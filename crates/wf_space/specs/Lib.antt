@@ -1,2 +1,9 @@
 pub mod Changes
 pub mod Pieces
+pub mod Leaves
+pub mod Leaving
+pub mod Unmapping
+pub mod Jobs
+pub mod Carried
+pub mod Alike
+pub mod Refusals

@@ -4,7 +4,9 @@ use Rattle.std.specs.Int.{from_le_bytes, w32}
 use Rattle.std.specs.List.{AllByRecursion, fold}
 use Rattle.wf_outside.specs.declared.image.Jump.{Jump}
 use Rattle.wf_outside.specs.declared.sizes.TheConstants.{PAGE_SIZE, PAGE_WORDS}
+use Rattle.wf_frames.specs.declared.state.FrameState.TheVariants.{Worn}
 use Rattle.wf_frames.specs.FrameWords.{word_of}
+use Rattle.wf_frames.specs.Frames.{HasState}
 use Rattle.wf_frames.specs.Layout.{WordsValue, frame_word_place, word_count, word_place}
 use Rattle.wf_views.specs.declared.pages.PageAt.{PageAt}
 use Rattle.wf_views.specs.declared.plan.Piece.{Piece}
@@ -81,6 +83,15 @@ Performs old r (Copy source frame page jumps) new q =
 Performs old r (Live frame) new q = IsMadeLive old new r frame × (q ≡ r)
 Performs old r (Pte at value) new q = (new ≡ with_word old at value) × (q ≡ r)
 Performs old r (Leave page) new q = IsSomeAnd (page_at r.pages page) (Leaves old new r q)
+
+-- a piece wears a frame out: a page leaves, and the frame that it lay in is worn then
+abbrev pub WearsOut : Records → Piece → Records → Type 0
+WearsOut r (Leave page) q =
+    IsSomeAnd (page_at r.pages page) (λ p. HasState q.frames.frames p.frame Worn)
+WearsOut r (Fill frame page) q = ⊥
+WearsOut r (Copy source frame page jumps) q = ⊥
+WearsOut r (Live frame) q = ⊥
+WearsOut r (Pte at value) q = ⊥
 
 -- the incarnation of a frame, if it is there, fits a frame word
 abbrev pub HasIncarnation : Records → ℕ → Type 0

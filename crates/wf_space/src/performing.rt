@@ -1,6 +1,7 @@
 //! Pieces of a plan.
+ghost use Rattle.std.specs.Prelude.{◌↔◌, IsTrue};
 ghost use Rattle.wf_space.specs.Changes.{MayNote, with_changes};
-ghost use Rattle.wf_space.specs.Pieces.{ArePerformed, MayPerform, MayPerformAll, Performs};
+ghost use Rattle.wf_space.specs.Pieces.{ArePerformed, MayPerform, MayPerformAll, Performs, WearsOut};
 
 use crate::changing::note_all;
 use crate::copying::copy_frame;
@@ -9,24 +10,36 @@ use crate::storing::{fill_frame, make_live};
 use wf_frames::Words;
 use wf_views::{Piece, Plan, Records};
 
-/// One piece of a plan is performed. What it names is there; a page that leaves is going.
-pub fn perform_piece(words: &mut Words, records: &mut Records, piece: Piece)
+/// One piece of a plan is performed. What it names is there; a page that leaves is going. It tells
+/// whether a page left and wore out the frame that it lay in.
+pub fn perform_piece(words: &mut Words, records: &mut Records, piece: Piece) -> bool
     requires { MayPerform words.old records.old piece }
-    ensures { Performs words.old records.old piece words.new records.new }
+    ensures performed { Performs words.old records.old piece words.new records.new }
+    ensures worn { IsTrue result ↔ WearsOut records.old piece records.new }
 {
     match piece {
-        Piece::Fill { frame, words: page } => fill_frame(words, frame, page.as_slice()),
+        Piece::Fill { frame, words: page } => {
+            fill_frame(words, frame, page.as_slice());
+            false
+        }
         Piece::Copy {
             from,
             frame,
             page,
             jumps,
-        } => copy_frame(words, from, frame, page, jumps.as_slice()),
-        Piece::Live { frame } => make_live(words, frame, records.frames.incarnation(frame)),
-        Piece::Pte { at, value } => words.set(at, value),
-        Piece::Leave { page } => {
-            let _worn = leave_page(words, records, page);
+        } => {
+            copy_frame(words, from, frame, page, jumps.as_slice());
+            false
         }
+        Piece::Live { frame } => {
+            make_live(words, frame, records.frames.incarnation(frame));
+            false
+        }
+        Piece::Pte { at, value } => {
+            words.set(at, value);
+            false
+        }
+        Piece::Leave { page } => leave_page(words, records, page),
     }
 }
 
@@ -36,7 +49,7 @@ fn perform_all(words: &mut Words, records: &mut Records, pieces: Vec<Piece>)
     ensures { ArePerformed words.old records.old pieces.items words.new records.new }
 {
     for piece in pieces {
-        perform_piece(words, records, piece);
+        let _worn = perform_piece(words, records, piece);
     }
 }
 

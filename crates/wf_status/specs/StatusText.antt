@@ -1,24 +1,29 @@
 -- The exit status of a status, and its line.
 use Rattle.std.specs.Prelude.{◌++◌, ℕ, List, [], false, codes}
 use Rattle.std.specs.Fmt.{decimal, digits}
+use Rattle.patch_rules.specs.RuleText.{line_rule_text, link_rule_text, section_rule_text}
 use Rattle.wf_status.specs.declared.status.Status.{Status}
-use Rattle.wf_status.specs.declared.status.Status.TheVariants.{Done, Words, Image, Script, Source, Journal, Shelf, Sink, Memory, Limit, Illegal, Unbuilt}
+use Rattle.wf_status.specs.declared.status.Status.TheVariants.{Done, Words, Image, Patch, Script, Source, Journal, Shelf, Sink, Memory, Limit, Illegal, Unbuilt}
 use Rattle.wf_status.specs.declared.status.LimitKind.{LimitKind}
 use Rattle.wf_status.specs.declared.status.LimitKind.TheVariants.{File, Units, Patches, Frames}
 use Rattle.wf_status.specs.declared.status.Unbuilt.{Unbuilt as UnbuiltPart}
 use Rattle.wf_status.specs.declared.status.Unbuilt.TheVariants as unbuilt
 use Rattle.wf_status.specs.declared.entries.EntryRule.{EntryRule}
 use Rattle.wf_status.specs.declared.entries.EntryRule.TheVariants as entry
+use Rattle.wf_status.specs.declared.patches.PatchWhy.{PatchWhy}
+use Rattle.wf_status.specs.declared.patches.PatchWhy.TheVariants as patch
 use Rattle.wf_status.specs.declared.rules.ImageRule.{ImageRule}
 use Rattle.wf_status.specs.declared.sources.SourceRule.{SourceRule}
 use Rattle.wf_status.specs.declared.sources.SourceRule.TheVariants as source
 use Rattle.wf_status.specs.declared.rules.ImageRule.TheVariants.{Short, Magic, Class, Order, Kind, Machine, Flags, Table, Range, Strings, TlsSegment, Interp, Dynamic, WriteAndRun, HighAddress, TooLarge, SharedPage, NoEntry}
+use Rattle.wf_status.specs.Rules.{of_file}
 
 -- the exit status of each end of a command
 abbrev pub code_of : Status → ℕ
 code_of Done = 0
 code_of Words = 1
 code_of (Image rule at) = 2
+code_of (Patch number fault) = 3
 code_of (Script line column) = 4
 code_of (Source rule line) = 4
 code_of (Journal line) = 4
@@ -63,6 +68,25 @@ rule_text TooLarge = codes "toolarge"
 rule_text SharedPage = codes "sharedpage"
 rule_text NoEntry = codes "noentry"
 
+-- the words for why a patch is none
+abbrev pub patch_text : PatchWhy → List ℕ
+patch_text (patch.Text line) = codes "line " ++ decimal line
+patch_text (patch.Elf rule at) =
+    codes "object " ++ rule_text (of_file rule) ++ codes " at " ++ decimal at
+patch_text (patch.Section index rule) =
+    codes "section " ++ decimal index ++ codes " " ++ section_rule_text rule
+patch_text (patch.Common symbol) = codes "common " ++ decimal symbol
+patch_text (patch.Area pages) = codes "area " ++ decimal pages
+patch_text (patch.Line line rule) =
+    codes "line " ++ decimal line ++ codes " " ++ line_rule_text rule
+patch_text (patch.Link group index rule) =
+    codes "relocation "
+    ++ decimal group
+    ++ codes " "
+    ++ decimal index
+    ++ codes " "
+    ++ link_rule_text rule
+
 -- the word for a rule of sources
 abbrev pub source_text : SourceRule → List ℕ
 source_text source.Syntax = codes "syntax"
@@ -102,6 +126,8 @@ abbrev pub line_of : Status → List ℕ
 line_of Done = []
 line_of Words = codes "wfpatch: words"
 line_of (Image rule at) = codes "wfpatch: image " ++ rule_text rule ++ codes " at " ++ decimal at
+line_of (Patch number fault) =
+    codes "wfpatch: patch " ++ decimal number ++ codes " " ++ patch_text fault
 line_of (Script line column) =
     codes "wfpatch: script line " ++ decimal line ++ codes " column " ++ decimal column
 line_of (Source rule line) =

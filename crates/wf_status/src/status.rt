@@ -2,7 +2,7 @@
 ghost use Rattle.std.specs.Prelude.{◌≡◌, IfOk};
 ghost use Rattle.wf_status.specs.StatusText.{code_of, line_of};
 
-use crate::{EntryRule, ImageRule, SourceRule};
+use crate::{EntryRule, ImageRule, PatchWhy, SourceRule};
 use std::alloc::Global;
 use std::fmt;
 use wf_outside::{Memory, Text};
@@ -42,6 +42,11 @@ pub enum Status {
     Image {
         rule: ImageRule,
         at: u64,
+    },
+    /// Of the patches, by number from 0, this is the first that is none, for this fault.
+    Patch {
+        patch: u64,
+        fault: PatchWhy,
     },
     /// The first wrong word of the script stands in this line, from this column on; where a word is
     /// missing, the column is one past the line's end. Both count from 1, columns by bytes.
@@ -83,9 +88,9 @@ pub enum Status {
 }
 
 impl Status {
-    /// The exit status: 0 for `Done`, 1 for `Words`, 2 for `Image`, 4 for `Script`, `Source` and
-    /// `Journal`, 5 for `Shelf`, 6 for `Sink`, 7 for `Memory`, 8 for `Limit`, 9 for `Illegal`, 10 for
-    /// `Unbuilt`.
+    /// The exit status: 0 for `Done`, 1 for `Words`, 2 for `Image`, 3 for `Patch`, 4 for `Script`,
+    /// `Source` and `Journal`, 5 for `Shelf`, 6 for `Sink`, 7 for `Memory`, 8 for `Limit`, 9 for
+    /// `Illegal`, 10 for `Unbuilt`.
     pub fn code(&self) -> u8
         ensures { result ≡ code_of self.now }
     {
@@ -93,6 +98,7 @@ impl Status {
             Status::Done => 0,
             Status::Words => 1,
             Status::Image { .. } => 2,
+            Status::Patch { .. } => 3,
             Status::Script { .. } => 4,
             Status::Source { .. } => 4,
             Status::Journal { .. } => 4,
@@ -157,6 +163,7 @@ impl fmt::Display for Status {
             Status::Done => Ok(()),
             Status::Words => write!(f, "wfpatch: words"),
             Status::Image { rule, at } => write!(f, "wfpatch: image {rule} at {at}"),
+            Status::Patch { patch, fault } => write!(f, "wfpatch: patch {patch} {fault}"),
             Status::Script { line, column } => {
                 write!(f, "wfpatch: script line {line} column {column}")
             }

@@ -1,18 +1,11 @@
-//! Sources that are assembled to relocatable files: the words, what is put, and what is answered.
-//! Places and lengths are worked out by hand; the instructions are those of another assembler.
-ghost use Rattle.std.specs.Prelude.{◌<◌, ◌^◌, IfOk, vec_len};
-
-use crate::runs::{answer, files_of};
+//! The records of a source's relocatable file, read back. Places and lengths are worked out by hand.
 use elf_read::{Elf, Kind};
+use elf_write::Form;
 use std::alloc::Global;
 use std::process::Abort;
 use std::test::Fail;
-use wf_status::{SourceRule, Status};
-
-// What two types of files have for e_type (System V ABI, "ELF Header").
-const EXECUTABLE: Option<u8> = Some(2);
-
-const RELOCATABLE: Option<u8> = Some(1);
+use wf_outside::{MemShelf, Text};
+use wf_source::fetch_file;
 
 const SOURCE: &str = "        .globl go
 go:     la a0, table
@@ -24,123 +17,14 @@ table:  .dword go+8
         .zero 8
 ";
 
-// The words of the source's instructions, with empty fields but in the branch.
-const CODE: [u32; 5] = [
-    0x0000_0517,
-    0x0005_0513,
-    0x0000_0097,
-    0x0000_80E7,
-    0xFEB5_08E3,
-];
-
-// What a source answers as an object, and what is put, where reads and puts of these numbers fail.
-fn assemble(
-    alloc: Global,
-    source: &str,
-    reads: &[u64],
-    puts: &[u64],
-) -> Result<(Status, Vec<u8>), Fail> {
-    let files = files_of(alloc, source.as_bytes(), b"")?;
-    answer(alloc, &["asm", "a", "--object"], files, reads, puts)
-}
-
-// What is put of the source.
-fn put_object(rt: &impl Abort, alloc: Global) -> Result<Vec<u8>, Fail>
-    ensures { IfOk result (λ bytes. vec_len bytes < 2 ^ 32) }
-{
-    let (status, file) = assemble(alloc, SOURCE, &[], &[])?;
-    assert_eq!(rt; status, Status::Done);
-    assert!(rt; file.len() < 1 << 32);
-    Ok(file)
-}
-
+// What is read of the source's file.
 fn read_back(rt: &impl Abort, alloc: Global) -> Result<Elf, Fail> {
-    Ok(Elf::read(alloc, put_object(rt, alloc)?, Kind::Rel)?)
-}
-
-#[test]
-fn words_of_assemblies(rt: HostRuntime) -> Result<(), Fail> {
-    let alloc = rt.alloc();
-    for (line, status, kind) in [
-        (["asm", "a"].as_slice(), Status::Done, EXECUTABLE),
-        (["asm", "--", "a"].as_slice(), Status::Done, EXECUTABLE),
-        (
-            ["asm", "a", "--object"].as_slice(),
-            Status::Done,
-            RELOCATABLE,
-        ),
-        (
-            ["asm", "--object", "a"].as_slice(),
-            Status::Done,
-            RELOCATABLE,
-        ),
-        (["asm", "c", "--object"].as_slice(), Status::Shelf, None),
-    ] {
-        let files = files_of(alloc, b"nop\n", b"")?;
-        let (answered, got) = answer(alloc, line, files, &[], &[])?;
-        assert_eq!(rt; answered, status, "{line:?}");
-        assert_eq!(rt; got.get(16).copied(), kind, "{line:?}");
-    }
-    Ok(())
-}
-
-#[test]
-fn words_of_no_object(rt: HostRuntime) -> Result<(), Fail> {
-    let alloc = rt.alloc();
-    for line in [
-        ["asm", "--object"].as_slice(),
-        ["asm", "-a", "--object"].as_slice(),
-        ["asm", "a", "b", "--object"].as_slice(),
-        ["asm", "a", "--object", "b"].as_slice(),
-        ["asm", "a", "--object", "--object"].as_slice(),
-        ["asm", "a", "--object="].as_slice(),
-        ["asm", "a", "--objects"].as_slice(),
-        ["asm", "a", "--objec"].as_slice(),
-        ["asm", "a", "--Object"].as_slice(),
-        ["asm", "a", "-object"].as_slice(),
-        ["asm", "a", "object"].as_slice(),
-        ["asm", "a", ""].as_slice(),
-        ["asm", "--", "a", "--object"].as_slice(),
-        ["run", "a", "--object"].as_slice(),
-        ["run", "a", "b", "--object"].as_slice(),
-        ["check", "a", "b", "--object"].as_slice(),
-    ] {
-        let files = files_of(alloc, b"nop\n", b"")?;
-        let (status, got) = answer(alloc, line, files, &[], &[])?;
-        assert_eq!(rt; status, Status::Words, "{line:?}");
-        assert_eq!(rt; got.len(), 0, "{line:?}");
-    }
-    Ok(())
-}
-
-#[test]
-fn faults_of_objects(rt: HostRuntime) -> Result<(), Fail> {
-    for (source, line, rule) in [
-        ("walk\nj b\n", 1, SourceRule::Syntax),
-        ("a:\nj b\na:\n", 3, SourceRule::Twice),
-        ("j b\n.globl b\n", 2, SourceRule::Unknown),
-        ("call b\n.size b\n", 2, SourceRule::Unknown),
-        ("la a0, b\naddi x1, x2, 2048", 2, SourceRule::Range),
-        ("a:\n.dword a+9223372036854775808", 2, SourceRule::Range),
-    ] {
-        let (status, got) = assemble(rt.alloc(), source, &[], &[])?;
-        assert_eq!(rt; status, Status::Source { rule, line }, "{source}");
-        assert_eq!(rt; got.len(), 0, "{source}");
-    }
-    Ok(())
-}
-
-#[test]
-fn failing_reads_and_puts_of_objects(rt: HostRuntime) -> Result<(), Fail> {
-    let alloc = rt.alloc();
-    let file = put_object(&rt, alloc)?;
-    let (status, got) = assemble(alloc, SOURCE, &[0], &[])?;
-    assert_eq!(rt; status, Status::Shelf);
-    assert_eq!(rt; got.len(), 0);
-    let (status, got) = assemble(alloc, SOURCE, &[], &[0])?;
-    assert_eq!(rt; status, Status::Sink);
-    assert_eq!(rt; got.as_slice(), &file[..file.len() / 2]);
-    Ok(())
+    let mut files = Vec::new(alloc);
+    files.push((Text::of(alloc, b"a")?, SOURCE.as_bytes().to_vec(alloc)?))?;
+    let mut shelf = MemShelf::new(alloc, files, Vec::new(alloc));
+    let file = fetch_file(alloc, &mut shelf, b"a", Form::Object).map_err(|_| "no file")?;
+    assert!(rt; file.len() < 1 << 32);
+    Ok(Elf::read(alloc, file, Kind::Rel)?)
 }
 
 #[test]
@@ -167,17 +51,6 @@ fn sections_of_an_object(rt: HostRuntime) -> Result<(), Fail> {
         let found = (front.0, front.1, front.2, front.3, s.sh_link, s.sh_info);
         assert_eq!(rt; found, wanted);
     }
-    Ok(())
-}
-
-#[test]
-fn text_of_an_object(rt: HostRuntime) -> Result<(), Fail> {
-    let file = put_object(&rt, rt.alloc())?;
-    assert!(rt; file.len() > 96);
-    for (bytes, word) in file[64..84].chunks_exact(4).zip(CODE) {
-        assert!(rt; bytes == word.to_le_bytes().as_slice(), "{word:x}");
-    }
-    assert_eq!(rt; &file[84..96], [0; 12].as_slice());
     Ok(())
 }
 

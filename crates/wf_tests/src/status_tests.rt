@@ -1,7 +1,10 @@
 //! The literal lines of statuses, and their exit statuses.
-use crate::runs::unbuilt;
 use std::test::Fail;
 use wf_status::{EntryRule, ImageRule, LimitKind, SourceRule, Status, Unbuilt};
+
+fn unbuilt(what: Unbuilt) -> Status {
+    Status::Unbuilt { what }
+}
 
 #[test]
 fn statuses(rt: HostRuntime) -> Result<(), Fail> {

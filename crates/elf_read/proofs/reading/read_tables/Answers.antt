@@ -3,9 +3,10 @@ use Rattle.std.specs.Result.{result_err}
 use Rattle.std.proofs.lemmas.Result.{err_from_is_err_and}
 use Rattle.elf_read.specs.Elf.{HasHome}
 use Rattle.elf_read.specs.Records.{symbol_table, sections_of, symbols_of}
+use Rattle.elf_read.specs.Reading.{AreSymbolsIn}
 use Rattle.elf_read.specs.Relas.{IsRooted}
 use Rattle.elf_read.specs.declared.records.Section.{Section}
-use Rattle.elf_read.proofs.RuleLemmas.{IsSound, part_answers, in_header, in_segments, in_sections, in_symbols, in_relas, headers_in, sections_count}
+use Rattle.elf_read.proofs.RuleLemmas.{IsSound, part_answers, in_header, in_segments, in_sections, in_symbols, in_relas, headers_in, sections_count, symbols_count}
 use Rattle.elf_read.proofs.reading.read_tables.Goals as goal
 
 pub returns-in_err-header-clause-fault : goal.returns-in_err-header-clause-fault
@@ -52,6 +53,15 @@ returns-clause-kept c =
     let counted : vec_len c.in_ok-symbols.symbols ≡ length c.in_ok-symbols.symbols.items = search rules in
     record {
       few = c.requires;
+      few_sections =
+          let count = sections_count c.args.bytes.now c.in_ok-header.header c.in_ok-sections.sections.items c.in_ok-sections.ensures.first.1 in
+          let room = c.in_ok-header.ensures.laid_out.sections in
+          omega arith;
+      few_symbols =
+          let count = symbols_count c.args.bytes.now c.symbol_table-table.result c.in_ok-symbols.symbols.items c.in_ok-symbols.ensures.first.1 in
+          let room : AreSymbolsIn (length c.args.bytes.now) c.symbol_table-table.result = search rules in
+          let entries = room.entries in
+          omega arith;
       header = c.in_ok-header.ensures.first.1;
       places = headers_in c.args.bytes.now c.in_ok-header.header c.in_ok-segments.segments.items c.in_ok-header.ensures.first.1 c.in_ok-header.ensures.laid_out c.in_ok-segments.ensures.first.1;
       fit = c.in_ok-segments.ensures.fit;

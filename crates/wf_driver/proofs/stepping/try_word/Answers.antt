@@ -1,6 +1,6 @@
 use Rattle.std.proofs.Common.{◌≡◌, subst, sym, rules}
 use Rattle.rv_inst.specs.Arch.{ArchState}
-use Rattle.wf_legal.specs.Built.{IsUnbuilt}
+use Rattle.wf_follow.specs.Built.{IsUnbuilt}
 use Rattle.wf_driver.proofs.StepLemmas.{begins, rest_acts}
 use Rattle.wf_driver.proofs.CarryLemmas.{meets_unbuilt_word, stands_at_built}
 use Rattle.wf_driver.proofs.stepping.try_word.Goals as goal

@@ -1,0 +1,9 @@
+pub mod LayoutLemmas
+pub mod PlaceLemmas
+pub mod JumpLemmas
+pub mod LinkLemmas
+pub mod BuildLemmas
+pub mod NameLemmas
+pub mod AreaLemmas
+pub mod FitLemmas
+pub mod SameLemmas

@@ -1,0 +1,10 @@
+pub mod Areas
+pub mod Sections
+pub mod Layout
+pub mod Names
+pub mod Jumps
+pub mod Links
+pub mod Pages
+pub mod Builds
+pub mod Fits
+pub mod Laws

@@ -1,0 +1,5 @@
+pub mod BaseLemmas
+pub mod StageLemmas
+pub mod ReachLemmas
+pub mod ObjectLemmas
+pub mod FetchLemmas

@@ -1,0 +1,7 @@
+use Rattle.std.proofs.Common.{◌≡◌, ◌+◌, ◌-◌}
+use Rattle.std.specs.List.{find, range_with_len}
+use Rattle.wf_space.specs.Jobs.{is_absent_at}
+use Rattle.wf_space.proofs.unmapping.first_absent.Given as goal
+
+abbrev pub invariant-loop-i : goal.invariant-loop-i
+invariant-loop-i l = find (is_absent_at l.records) (range_with_len (l.first + l.i) (l.pages - l.i)) ≡ find (is_absent_at l.records) (range_with_len l.first l.pages)
