@@ -1,8 +1,10 @@
-//! `check_cases FILE`: checks journals of which one entry is changed, a line of the file a case:
-//! `NAME keep`, or `NAME ENTRY CHANGE` with an entry counted from 0 and the change `drop`, `twice`,
-//! `exchange` (with the next) or `put LINE`. The image is that of the assembler's source `NAME.s`,
-//! and the journal is `NAME.txt`. Each case is printed again with what its check answers. A fault
-//! of the file is told on the standard error with exit status 1.
+//! `check_cases FILE [NAMED]..`: checks journals of which one line is changed, a line of the file a
+//! case: `NAME keep`, or `NAME PLACE CHANGE` with a place counted from 0 behind the first three
+//! lines, those of patches and of entries, and the change `drop`, `twice`, `exchange` (with the
+//! next) or `put LINE`. The image is that of the assembler's source `NAME.s`, and the journal is
+//! `NAME.txt`; it may name the files of the further words as patches. Of these `X.o` is the object
+//! that the source `X.s` means. Each case is printed again with what its check answers. A fault of
+//! the files is told on the standard error with exit status 1.
 #![tactic(auto)]
 
 mod changing;
@@ -20,10 +22,10 @@ use wf_text::{decimal_of, split_line, split_word, without_spaces};
 
 const MOST_BYTES: u64 = 1_048_576;
 
-// The lines of a journal before its entries.
+// The lines of a journal before its patches and entries.
 const FIRST_LINES: usize = 3;
 
-const USAGE: &str = "usage: check_cases FILE";
+const USAGE: &str = "usage: check_cases FILE [NAMED]..";
 
 // The bytes of a file.
 fn bytes_of<R: Env + Files + AllocGlobal>(rt: &R, name: &[u8]) -> Result<Vec<u8>> {
@@ -35,16 +37,33 @@ fn bytes_of<R: Env + Files + AllocGlobal>(rt: &R, name: &[u8]) -> Result<Vec<u8>
     }
 }
 
-// The bytes of the file that the source of a name means.
-fn image_of<R: Env + Files + AllocGlobal>(rt: &R, name: &[u8]) -> Result<Vec<u8>> {
+// The bytes of the file of this form that the source of a name means.
+fn assembled<R: Env + Files + AllocGlobal>(rt: &R, name: &[u8], form: Form) -> Result<Vec<u8>> {
     let mut source = Vec::new(rt.alloc());
     source.extend_from_slice(name)?;
     source.extend_from_slice(b".s")?;
     let mut shelf = FsShelf::new(rt, rt.alloc());
-    match fetch_file(rt.alloc(), &mut shelf, &source, Form::Exec) {
+    match fetch_file(rt.alloc(), &mut shelf, &source, form) {
         Ok(file) => Ok(file),
         Err(_) => bail!("a source can't be assembled"),
     }
+}
+
+// A file of a shelf in memory.
+fn file(alloc: Global, name: &[u8], bytes: Vec<u8>) -> Result<(Text, Vec<u8>)> {
+    match Text::of(alloc, name) {
+        Ok(name) => Ok((name, bytes)),
+        Err(Memory) => bail!("memory"),
+    }
+}
+
+// A file that journals may name: an object is assembled, and any other is read.
+fn named_file<R: Env + Files + AllocGlobal>(rt: &R, name: &str) -> Result<(Text, Vec<u8>)> {
+    let bytes = match name.strip_suffix(".o") {
+        Some(source) => assembled(rt, source.as_bytes(), Form::Object)?,
+        None => bytes_of(rt, name.as_bytes())?,
+    };
+    file(rt.alloc(), name.as_bytes(), bytes)
 }
 
 // The lines of the journal of a name.
@@ -65,13 +84,13 @@ fn change(alloc: Global, lines: &mut Vec<Text>, words: &[u8]) -> Result<()> {
         return Ok(());
     }
     let (name, rest) = split_word(without_spaces(rest));
-    let (Some(entry), Some(change)) = (decimal_of(place, 100_000), change_named(name)) else {
+    let (Some(place), Some(change)) = (decimal_of(place, 100_000), change_named(name)) else {
         bail!("a case has no change");
     };
     match make(
         alloc,
         lines,
-        FIRST_LINES + entry as usize,
+        FIRST_LINES + place as usize,
         change,
         without_spaces(rest),
     ) {
@@ -80,24 +99,34 @@ fn change(alloc: Global, lines: &mut Vec<Text>, words: &[u8]) -> Result<()> {
     }
 }
 
-// What the check of a journal against an image answers.
-fn check(alloc: Global, image: Vec<u8>, journal: Vec<u8>) -> Result<Result<u64, Status>> {
+// What the check of a journal against an image answers, where these further files are there.
+fn check(
+    alloc: Global,
+    image: Vec<u8>,
+    journal: Vec<u8>,
+    named: &[(Text, Vec<u8>)],
+) -> Result<Result<u64, Status>> {
     let mut files = Vec::new(alloc);
-    let (Ok(first), Ok(second)) = (Text::of(alloc, b"image"), Text::of(alloc, b"journal")) else {
-        bail!("memory");
-    };
-    files.push((first, image))?;
-    files.push((second, journal))?;
+    files.push(file(alloc, b"image", image)?)?;
+    files.push(file(alloc, b"journal", journal)?)?;
+    for (name, bytes) in named {
+        files.push(file(alloc, name.bytes(), bytes.to_vec(alloc)?)?)?;
+    }
     let mut shelf = MemShelf::new(alloc, files, Vec::new(alloc));
     Ok(fetch_checked(alloc, &mut shelf, b"image", b"journal"))
 }
 
 // A case, printed again with what is answered.
-fn print_case<R: Env + Files + Print + AllocGlobal>(rt: &R, case: &[u8]) -> Result<()> {
+fn print_case<R: Env + Files + Print + AllocGlobal>(
+    rt: &R,
+    case: &[u8],
+    named: &[(Text, Vec<u8>)],
+) -> Result<()> {
     let (name, words) = split_word(case);
     let mut lines = journal_of(rt, name)?;
     change(rt.alloc(), &mut lines, words)?;
-    let answer = check(rt.alloc(), image_of(rt, name)?, joined(rt.alloc(), &lines)?)?;
+    let image = assembled(rt, name, Form::Exec)?;
+    let answer = check(rt.alloc(), image, joined(rt.alloc(), &lines)?, named)?;
     rt.write_all(case)?;
     match answer {
         Ok(count) => println!(rt; ": ok {count}")?,
@@ -108,14 +137,18 @@ fn print_case<R: Env + Files + Print + AllocGlobal>(rt: &R, case: &[u8]) -> Resu
 
 fn main(rt: HostRuntime) -> Result<()> {
     let mut words = std::env::args(&rt)?;
-    let (Some(name), None) = (words.nth(1), words.next()) else {
+    let Some(name) = words.nth(1) else {
         bail!("{USAGE}");
     };
+    let mut named = Vec::new(rt.alloc());
+    for word in words {
+        named.push(named_file(&rt, &word)?)?;
+    }
     let cases = bytes_of(&rt, name.as_bytes())?;
     let mut rest = cases.as_slice();
     while !rest.is_empty() {
         let (case, behind) = split_line(rest);
-        print_case(&rt, case)?;
+        print_case(&rt, case, &named)?;
         rest = behind;
     }
     Ok(())

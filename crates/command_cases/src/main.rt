@@ -11,6 +11,7 @@
 //! fill FILE COUNT BYTE                  so many times one byte
 //! copy FILE OTHER                       what the other file has, alone
 //! cut FILE LENGTH                       the file's front alone
+//! poke FILE PLACE DIGITS                other bytes at a place of the file
 //! replace FILE LINE TEXT                another line in the place of one, counted from 1
 //! drop FILE LINE                        the file without that line
 //! code ADDRESS WORD ..                  a segment of the image: instructions
@@ -23,6 +24,8 @@
 //! keep FILE                             what the last command put, as a file
 //! show lines FIRST LAST                 of what it put, these lines, counted from 1
 //! show from LINE                        the lines from that one on
+//! show with WORD ..                     the lines whose second word is one of these
+//! show without WORD ..                  those whose second word is none of them
 //! show bytes PLACE LENGTH               bytes
 //! show size                             how many bytes
 //! show against FILE                     whether it is what a file has, or the front of it

@@ -80,6 +80,24 @@ fn cut(alloc: Global, bench: &mut Bench, file: &[u8], rest: &[u8]) -> Result<()>
     bench.set(file, front)
 }
 
+// Other bytes at a place of a file: `PLACE DIGITS`.
+fn poke(alloc: Global, bench: &mut Bench, file: &[u8], rest: &[u8]) -> Result<()> {
+    let (place, digits) = first_number(rest)?;
+    let other = hex::decode(alloc, digits)?;
+    let place = usize::try_from(place)?;
+    let bytes = bench.bytes(file);
+    let (Some(front), Some(rest)) = (bytes.get(..place), bytes.get(place..)) else {
+        bail!("a file is too short");
+    };
+    let Some(back) = rest.get(other.len()..) else {
+        bail!("a file is too short");
+    };
+    let mut changed = front.to_vec(alloc)?;
+    changed.extend_from_slice(&other)?;
+    changed.extend_from_slice(back)?;
+    bench.set(file, changed)
+}
+
 // A file with other bytes in the place of a line, counted from 1.
 fn edit(alloc: Global, bench: &mut Bench, file: &[u8], line: u64, text: &[u8]) -> Result<()> {
     let mut bytes = Vec::new(alloc);
@@ -128,6 +146,7 @@ fn make_file(
         "bytes" => bench.add(file, &hex::decode(alloc, rest)?),
         "fill" => fill(alloc, bench, file, rest),
         "cut" => cut(alloc, bench, file, rest),
+        "poke" => poke(alloc, bench, file, rest),
         "replace" => replace(alloc, bench, file, rest),
         "drop" => edit(alloc, bench, file, number_of(rest)?, b""),
         "build" => bench.build(file),

@@ -1,10 +1,10 @@
 //! What is printed of a command.
 use crate::bench::Bench;
-use crate::words::{first_number, first_word, number_of};
+use crate::words::{first_number, first_word, number_of, words_of};
 use anyhow::{Result, bail};
-use wf_outside::Shelf;
+use wf_outside::{Shelf, Text};
 use wf_status::Status;
-use wf_text::split_line;
+use wf_text::{split_line, split_word, without_spaces};
 
 /// The exit status of a command and its line, and how many bytes were put where it is not done.
 pub fn print_answer<R: Print>(rt: &R, bench: &Bench, status: Status) -> Result<()> {
@@ -25,6 +25,28 @@ fn print_lines<R: Print>(rt: &R, bytes: &[u8], first: u64, last: u64) -> Result<
         let (line, behind) = split_line(rest);
         number = number.saturating_add(1);
         if first <= number && number <= last {
+            rt.write_all(line)?;
+            println!(rt)?;
+        }
+        rest = behind;
+    }
+    Ok(())
+}
+
+// What a line of a report is about: its second word.
+fn subject(line: &[u8]) -> &[u8] {
+    let (_, behind) = split_word(line);
+    let (word, _) = split_word(without_spaces(behind));
+    word
+}
+
+// The lines that are about one of these words, or those that are about none of them.
+fn print_about<R: Print>(rt: &R, bytes: &[u8], words: &[Text], wanted: bool) -> Result<()> {
+    let mut rest = bytes;
+    while !rest.is_empty() {
+        let (line, behind) = split_line(rest);
+        let about = subject(line);
+        if words.iter().any(|word| word.bytes() == about) == wanted {
             rt.write_all(line)?;
             println!(rt)?;
         }
@@ -70,6 +92,8 @@ pub fn show<R: Print + AllocGlobal>(rt: &R, bench: &Bench, rest: &[u8]) -> Resul
             print_lines(rt, put, first, number_of(last)?)
         }
         "from" => print_lines(rt, put, number_of(rest)?, u64::MAX),
+        "with" => print_about(rt, put, &words_of(rt.alloc(), rest)?, true),
+        "without" => print_about(rt, put, &words_of(rt.alloc(), rest)?, false),
         "bytes" => {
             let (place, length) = first_number(rest)?;
             print_bytes(rt, put, place, number_of(length)?)

@@ -1,4 +1,4 @@
-# Hart 0 maps a page; hart 1 exits.
+# Hart 0 asks for no pages, which is refused; hart 1 exits.
 .text
 _start:
     bne a0, x0, leave

@@ -1,3 +1,4 @@
 pub mod Rules
+pub mod Stages
 pub mod Checking
 pub mod Laws

@@ -1,24 +1,28 @@
 //! The check of a journal.
-ghost use Rattle.std.specs.Prelude.{ℕ, List, [], ◌≡◌, ◌≢◌, ◌≤◌, ◌⊎◌, ◌↔◌, Err, IfErr, IfOk, IfSome, OnOk, length, true};
-ghost use Rattle.wf_outside.specs.Files.{HasRisen, first_bytes};
+ghost use Rattle.std.specs.Prelude.{ℕ, List, ◌≡◌, ◌≤◌, ◌⊎◌, ◌↔◌, Err, IfErr, IfOk, IfSome, OnOk, length, true};
+ghost use Rattle.std.specs.List.{AllByRecursion};
+ghost use Rattle.wf_outside.specs.Files.{HasRisen};
 ghost use Rattle.wf_status.specs.declared.status.Status.{Status};
 ghost use Rattle.wf_status.specs.declared.status.Status.TheVariants as statuses;
 ghost use Rattle.wf_flat.specs.Counts.{used_of};
-ghost use Rattle.wf_fetch.specs.Loaded.{HoldsImage};
+ghost use Rattle.wf_sound.specs.Sound.{IsDelta};
+ghost use Rattle.wf_fetch.specs.Stages.{IsReadFault};
 ghost use Rattle.wf_journal.specs.Finals.{final_lines};
 ghost use Rattle.wf_journal.specs.Journals.{IsSized};
-ghost use Rattle.wf_check.specs.Checking.{BytesCallFor, CheckCallsFor, HoldsChecked, IsAccepted, IsReadFault, JournalCallsFor, MayCheck, boot_for, limits_of};
+ghost use Rattle.wf_patches.specs.Needed.{OfSome, held_in};
+ghost use Rattle.wf_check.specs.Stages.{boot_for, frames_stage};
+ghost use Rattle.wf_check.specs.Checking.{CheckCallsFor, IsAccepted, IsRight, MayCheck, OfNeeded, StagesCallFor};
 
+use crate::files::{CheckedFiles, fetch_files};
 use crate::rules::rule_of;
 use crate::wholeness::{data_is_whole, text_is_whole};
 use std::alloc::Global;
-use wf_fetch::{MAX_JOURNAL, fetch_image, fetch_within};
 use wf_flat::{BootFault, Flat, boot};
-use wf_journal::{Journal, JournalFault, final_text, read_journal};
-use wf_outside::{Image, Limits, MOST_BIRTHS, MOST_WRITES, Memory, Shelf, Text};
+use wf_journal::final_text;
+use wf_outside::{Limits, MOST_BIRTHS, MOST_WRITES, Memory, Shelf, Text};
 use wf_replay::{ReplayFault, replay};
 use wf_sound::starts_are_sound;
-use wf_status::{EntryRule, LimitKind, Status, Unbuilt};
+use wf_status::{EntryRule, LimitKind, Status};
 
 // Whether a line is the same as another.
 fn is_same(one: &Text, other: &Text) -> bool
@@ -52,22 +56,21 @@ fn are_final(alloc: Global, lines: &[Text], flat: &Flat) -> Result<bool, Memory>
     Ok(are_same(lines, &shown))
 }
 
-// The state at the start of a journal's run, which names no patch; or the limit of its frames.
-fn start(alloc: Global, image: &Image, journal: &Journal) -> Result<Flat, Status>
-    requires sized { IsSized journal.now.harts journal.now.frames }
-    requires no_patch { journal.now.patches ≡ [] }
-    ensures ok { IfOk result (λ flat. flat ≡ boot_for image.now journal.now) }
-    ensures fits { OnOk result (used_of (boot_for image.now journal.now) ≤ journal.now.frames) }
+// The state at the start of a journal's run; or the limit of its frames.
+fn start(alloc: Global, files: &CheckedFiles) -> Result<Flat, Status>
+    requires sized { IsSized files.now.journal.harts files.now.journal.frames }
+    ensures ok { IfOk result (λ flat. flat ≡ boot_for files.now) }
+    ensures fits { OnOk result (used_of (boot_for files.now) ≤ files.now.journal.frames) }
     ensures cause { IfErr result
-        (λ status. (status ≡ statuses.Memory) ⊎ JournalCallsFor image.now journal.now status) }
+        (λ status. (status ≡ statuses.Memory) ⊎ (frames_stage files.now ≡ Err status)) }
     ensures kind { IfErr result MayCheck }
 {
     let limits = Limits {
-        frames: journal.frames,
+        frames: files.journal.frames,
         last_writes: MOST_WRITES,
         last_birth: MOST_BIRTHS,
     };
-    match boot(alloc, image, journal.harts, limits) {
+    match boot(alloc, &files.image, files.journal.harts, limits) {
         Ok(flat) => Ok(flat),
         Err(BootFault::NoFrames { need, have }) => Err(Status::Limit {
             what: LimitKind::Frames,
@@ -78,23 +81,26 @@ fn start(alloc: Global, image: &Image, journal: &Journal) -> Result<Flat, Status
     }
 }
 
-// What a journal that was read, and names no patch, calls for: Done with the number of its entries
-// where all is right, and else why not.
-fn check_entries(alloc: Global, image: &Image, journal: &Journal) -> Result<u64, Status>
-    requires sized { IsSized journal.now.harts journal.now.frames }
-    requires no_patch { journal.now.patches ≡ [] }
+// What files call for: Done with the number of the journal's entries where all is right, and else
+// why not.
+fn check_files(alloc: Global, files: &CheckedFiles) -> Result<u64, Status>
+    requires sized { IsSized files.now.journal.harts files.now.journal.frames }
+    requires patches { AllByRecursion IsDelta files.now.deltas }
+    requires few { length files.now.deltas ≤ 64 }
     ensures right { IfOk result
-        (λ n. JournalCallsFor image.now journal.now statuses.Done
-        × (n ≡ length journal.now.entries)) }
+        (λ count. IsRight files.now × (count ≡ length files.now.journal.entries)) }
+    ensures fits { OnOk result (used_of (boot_for files.now) ≤ files.now.journal.frames) }
     ensures cause { IfErr result
-        (λ status. (status ≡ statuses.Memory) ⊎ JournalCallsFor image.now journal.now status) }
+        (λ status. (status ≡ statuses.Memory)
+        ⊎ StagesCallFor (frames_stage files.now) status) }
     ensures kind { IfErr result MayCheck }
 {
     starts_are_sound();
-    text_is_whole(&image.text);
-    data_is_whole(&image.pages);
-    let flat = start(alloc, image, journal)?;
-    let end = match replay(alloc, flat, &journal.entries, &[]) {
+    text_is_whole(&files.image.text);
+    data_is_whole(&files.image.pages);
+    let flat = start(alloc, files)?;
+    let journal = &files.journal;
+    let end = match replay(alloc, flat, &journal.entries, &files.deltas) {
         Ok(end) => end,
         Err(ReplayFault::Bad { index, rule }) => return Err(Status::Illegal {
             index,
@@ -113,32 +119,15 @@ fn check_entries(alloc: Global, image: &Image, journal: &Journal) -> Result<u64,
     }
 }
 
-/// What the bytes of a journal call for, of this image: the number of its entries where the machine
-/// allows each of them and the final lines are those of its end; else the first of these that
-/// applies: a line that may not stand there, a patch, more frames than there are, an entry that is
-/// not allowed, other final lines; or Memory.
-pub fn check_journal(alloc: Global, image: &Image, bytes: &[u8]) -> Result<u64, Status>
-    ensures right { IfOk result (IsAccepted image.now bytes.now) }
-    ensures cause { IfErr result
-        (λ status. (status ≡ statuses.Memory) ⊎ BytesCallFor image.now bytes.now status) }
-    ensures kind { IfErr result MayCheck }
-{
-    let journal = match read_journal(alloc, bytes) {
-        Ok(journal) => journal,
-        Err(JournalFault::Line { line }) => return Err(Status::Journal { line }),
-        Err(JournalFault::Memory) => return Err(Status::Memory),
-    };
-    if !journal.patches.is_empty() {
-        return Err(Status::Unbuilt {
-            what: Unbuilt::Journal,
-        });
-    }
-    check_entries(alloc, image, &journal)
-}
-
-/// Checks the journal of one name against the image of another: the number of its entries where all
-/// is right, and else the answer that they call for, or Shelf where a read of a needed name failed,
-/// or Memory.
+/// Checks the journal of one name against the image of another, with the patches that the journal
+/// names: the number of its entries where the machine allows each of them and the final lines are
+/// those of its end.
+///
+/// # Errors
+///
+/// What the files call for: the answer of the first stage that fails of image, journal, patches and
+/// frames; or `Illegal` with the first entry that is not allowed, or with other final lines. And
+/// `Shelf` where the read of a needed name failed, and `Memory`.
 pub fn fetch_checked<S: Shelf>(
     alloc: Global,
     shelf: &mut S,
@@ -146,27 +135,22 @@ pub fn fetch_checked<S: Shelf>(
     journal_name: &[u8],
 ) -> Result<u64, Status>
     ensures right { IfOk result
-        (λ n. IfSome (S.holds shelf.old)
-        (λ files. HoldsChecked (first_bytes image_name.now files)
-        (first_bytes journal_name.now files) (λ image bytes. IsAccepted image bytes n))) }
+        (λ count. IfSome (S.holds shelf.old)
+        (λ files. IsAccepted (held_in files) image_name.now journal_name.now count)) }
     ensures cause { IfErr result
         (λ status. IfSome (S.holds shelf.old)
         (λ files. IsReadFault status
-        ⊎ CheckCallsFor (first_bytes image_name.now files)
-        (first_bytes journal_name.now files) status)) }
+        ⊎ CheckCallsFor (held_in files) image_name.now journal_name.now status)) }
     ensures kind { IfErr result MayCheck }
     ensures shelf { result ≡ Err Status.Shelf
-        → HasRisen (S.faults shelf.old image_name.now) (S.faults shelf.new image_name.now)
-        ⊎ HasRisen (S.faults shelf.old journal_name.now) (S.faults shelf.new journal_name.now) }
+        → OfSome (λ name. HasRisen (S.faults shelf.old name) (S.faults shelf.new name)) }
     ensures needed { result ≡ Err Status.Shelf
         → IfSome (S.holds shelf.old)
-        (λ files. HasRisen (S.faults shelf.old image_name.now) (S.faults shelf.new image_name.now)
-        ⊎ (HoldsImage (first_bytes image_name.now files)
-        × HasRisen (S.faults shelf.old journal_name.now) (S.faults shelf.new journal_name.now))) }
+        (λ files. OfNeeded (held_in files) image_name.now journal_name.now
+        (λ name. HasRisen (S.faults shelf.old name) (S.faults shelf.new name))) }
     ensures holds { S.holds shelf.new ≡ S.holds shelf.old }
     ensures counts { (other : List ℕ) → S.faults shelf.old other ≤ S.faults shelf.new other }
 {
-    let image = fetch_image(alloc, shelf, image_name)?;
-    let bytes = fetch_within(shelf, journal_name, MAX_JOURNAL)?;
-    check_journal(alloc, &image, &bytes)
+    let files = fetch_files(alloc, shelf, image_name, journal_name)?;
+    check_files(alloc, &files)
 }

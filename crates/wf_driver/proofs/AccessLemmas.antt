@@ -1,7 +1,7 @@
 -- What the access of a hart may do, where nobody else holds a page and none is leaving.
 use Rattle.std.proofs.Common.{◌≡◌, ◌≢◌, ◌%◌, ℕ, List, [], ◌∷◌, Option, Some, None, Bool, true, false, refl, sym, subst, ap, ◌∙◌, arith}
-use Rattle.std.specs.Prelude.{option_and_then, if◌then◌else◌, ◌==◌, ◌&&◌, ◌||◌, is_some, nat_lt}
-use Rattle.std.specs.Option.{option_map}
+use Rattle.std.specs.Prelude.{IfSome, option_and_then, if◌then◌else◌, ◌==◌, ◌&&◌, ◌||◌, is_some, nat_lt}
+use Rattle.std.specs.Option.{option_map, option_map_or}
 use Rattle.std.specs.List.{AllByRecursion}
 use Rattle.std.proofs.lemmas.Bool.Decides.{nat_tests}
 use Rattle.rv_inst.specs.declared.inst.Inst.{Inst}
@@ -10,14 +10,16 @@ use Rattle.rv_inst.specs.declared.want.Want.TheVariants as want
 use Rattle.rv_inst.specs.Decoding.{inst_of}
 use Rattle.rv_inst.specs.Meanings.{want_of}
 use Rattle.rv_inst.specs.Arch.{ArchState}
+use Rattle.wf_outside.specs.Images.{DeltaValue}
 use Rattle.wf_outside.specs.Pages.{PageValue, page_of}
 use Rattle.wf_flat.specs.declared.state.Stage.TheVariants.{Here}
 use Rattle.wf_flat.specs.State.{FlatState, HartState, PageState}
 use Rattle.wf_flat.specs.Memory.{data_in, number_in, has_met}
 use Rattle.wf_flat.specs.Accesses.{Access, access_of, accessed_text, accessed_data, has_right, is_reached, holds, holds_page, is_barred, is_open, is_free, has_moved}
-use Rattle.wf_flat.specs.Steps.{Faulted, inst_in, want_in, access_in, ask_by, ask_of, ask_of_want, ask_of_word, ask_of_access, is_lost, may_read, Reads, TakesData, MayTake, takes_for}
+use Rattle.wf_flat.specs.Steps.{Ask, Called, Faulted, inst_in, want_in, access_in, ask_by, ask_of, ask_of_want, ask_of_word, ask_of_access, is_lost, may_read, Reads, TakesData, MayTake, takes_for}
 use Rattle.wf_legal.specs.Calls.{todo_by, todo_of_access, todo_of_page, access_trap}
-use Rattle.wf_driver.specs.Stepping.{IsTrying, IsSettled}
+use Rattle.wf_service.specs.Resting.{IsSettled}
+use Rattle.wf_driver.specs.Stepping.{IsTrying}
 
 -- what a hart in a try wants, and its access
 pub wanted : (arch : ArchState) (inst : Inst) (hart : HartState) → inst_in hart ≡ Some inst → hart.arch ≡ arch → want_in hart ≡ Some (want_of inst arch)
@@ -68,13 +70,21 @@ barred_access : (s : FlatState) (h : ℕ) (hart : HartState) (access : Access) �
     → ask_of_access s h hart (Some access) ≡ Some (Faulted access)
 barred_access s h hart access looked held lost barred = rw (looked, held, lost, barred) refl
 
-pub faults : (s : FlatState) (h : ℕ) (hart : HartState) (arch : ArchState) (inst : Inst) (access : Access) → AllByRecursion IsSettled s.pages → IsTrying arch inst hart → is_lost (want_in hart) hart.reservation ≡ false
-    → access_of (Some (want_of inst arch)) ≡ Some access → is_barred s hart access ≡ true → todo_by [] s h hart ≡ todo_of_access s hart access
-faults s h hart arch inst access free t kept e barred =
-    let ask : ask_of s h hart ≡ Some (Faulted access)
-    = by_fetched s h hart inst hart.fetched t.1 ∙ ap (ask_of_want s h hart) (wanted arch inst hart t.1 t.2) ∙ want_asks s h hart (want_of inst arch) access e
-    ∙ barred_access s h hart access t.3 (not_held s h access free) kept barred in
-    rw ask refl
+pub fault_asked : (s : FlatState) (h : ℕ) (hart : HartState) (arch : ArchState) (inst : Inst) (access : Access) → AllByRecursion IsSettled s.pages → IsTrying arch inst hart → is_lost (want_in hart) hart.reservation ≡ false
+    → access_of (Some (want_of inst arch)) ≡ Some access → is_barred s hart access ≡ true → ask_of s h hart ≡ Some (Faulted access)
+fault_asked s h hart arch inst access free t kept e barred =
+    by_fetched s h hart inst hart.fetched t.1 ∙ ap (ask_of_want s h hart) (wanted arch inst hart t.1 t.2) ∙ want_asks s h hart (want_of inst arch) access e
+    ∙ barred_access s h hart access t.3 (not_held s h access free) kept barred
+
+-- so it asks not by a call, and what is done about it is this
+pub no_call : (s : FlatState) (h : ℕ) (hart : HartState) (ask : Ask) → ask ≢ Called → ask_of s h hart ≡ Some ask → ask_of s h hart ≢ Some Called
+no_call s h hart ask other is calls = other (let same : Some ask ≡ Some Called = sym is ∙ calls in cc)
+
+pub fault_calls : (s : FlatState) (h : ℕ) (hart : HartState) (access : Access) → ask_of s h hart ≡ Some (Faulted access) → ask_of s h hart ≢ Some Called
+fault_calls s h hart access is = no_call s h hart (Faulted access) (λ e. cc) is
+
+pub faults : (s : FlatState) (h : ℕ) (hart : HartState) (access : Access) → ask_of s h hart ≡ Some (Faulted access) → (deltas : List DeltaValue) → todo_by deltas s h hart ≡ todo_of_access s hart access
+faults s h hart access ask = λ deltas. rw ask refl
 
 -- barred, where there is no text; and where there is
 pub barred_by : (s : FlatState) (hart : HartState) (access : Access) → accessed_text s hart access ≡ None → is_open s hart access (accessed_data s access) ≡ false → is_barred s hart access ≡ true
@@ -138,3 +148,8 @@ free_taken s hart arch inst access page free t e none is met right takes =
     let taking : TakesData s hart access (accessed_data s access) = rw is (all_three (is_free page) (is_reached s hart access page) (takes_for (want_in hart) s hart access page) (rw here.1 refl) reached for_want) in
     let may : MayTake s hart (Some access) (page_of access.va) = (refl, t.3, none, taking) in
     subst (λ (o : Option Access). MayTake s hart o (page_of access.va)) (sym (accessed arch inst hart access t e)) may
+
+-- a value of the page that is there, or 0, is that of the page where there is one
+pub value_there : (f : PageState → ℕ) (page : Option PageState) (n : ℕ) → n ≡ option_map_or f page 0 → IfSome page (λ page. n ≡ f page)
+value_there f None n e = tt
+value_there f (Some page) n e = e

@@ -1,5 +1,4 @@
 pub mod ActionLemmas
-pub mod BuiltLemmas
 pub mod StepLemmas
 pub mod CallLemmas
 pub mod AccessLemmas
@@ -7,6 +6,9 @@ pub mod MakingLemmas
 pub mod ServingLemmas
 pub mod CarryLemmas
 pub mod PlaceLemmas
+pub mod ServedLemmas
+pub mod KeepLemmas
 pub mod MadeLemmas
 pub mod TurnLemmas
+pub mod ImageLemmas
 pub mod StartLemmas

@@ -24,33 +24,34 @@ use Rattle.wf_flat.specs.Serving.{held_by}
 use Rattle.wf_flat.specs.Accesses.{Access, access_of, holds, holds_page}
 use Rattle.wf_flat.specs.Steps.{OfHart, MayLook, MayTake, MayPut, MaySwap, MayMiss, want_in, access_in, inst_in, is_conditional, has_written, has_ended, is_done, arch_by, arch_after}
 use Rattle.wf_legal.specs.Events.{flat_after}
+use Rattle.wf_legal.specs.Legal.{Moment}
 use Rattle.wf_flat.specs.Changes.{looked_with, written_by, swapped_by, missed, taken_by, put_with, change_hart, change_page}
 use Rattle.wf_flat.proofs.HartLemmas.{changed_get}
-use Rattle.wf_driver.specs.Stepping.{IsActing, IsSame, IsDone, IsTrying, InAccess, HasBegun}
+use Rattle.wf_driver.specs.Stepping.{IsActing, IsSame, IsDone, IsTrying, InAccess, HasOpenUnit}
 use Rattle.wf_flat.proofs.ListLemmas.{some_and, and_some}
 use Rattle.wf_driver.proofs.StepLemmas.{entry, left, but_changed, IsOwned, acts_on, open_made}
 use Rattle.wf_driver.proofs.AccessLemmas.{wanted}
 
 -- a look, a take, a put, a swap and a miss are made
-pub look_made : (s mid new : FlatState) (before now later : List Entry) (h va width value : ℕ) → HasBegun s before mid now h → mid.inside ≡ None
-    → OfHart mid h (λ hart. (hart.life ≡ Running) × MayLook mid h hart va width value) → new ≡ flat_after [] mid (Hart h) (Look va width value) → later ≡ now ++ entry h (Look va width value) ∷ [] → HasBegun s before new later h
-look_made s mid new before now later h va width value b inside may n appended = open_made s mid new before now later h (Look va width value) b inside may refl tt (rw inside refl) n appended
+pub look_made : (start : Moment) (mid new : FlatState) (before now later : List Entry) (h va width value : ℕ) → HasOpenUnit start before mid now h → mid.inside ≡ None
+    → OfHart mid h (λ hart. (hart.life ≡ Running) × MayLook mid h hart va width value) → new ≡ flat_after [] mid (Hart h) (Look va width value) → later ≡ now ++ entry h (Look va width value) ∷ [] → HasOpenUnit start before new later h
+look_made start mid new before now later h va width value b inside may n appended = open_made start mid new before now later h (Look va width value) b inside may refl (rw inside refl) n appended
 
-pub take_made : (s mid new : FlatState) (before now later : List Entry) (h page : ℕ) → HasBegun s before mid now h → mid.inside ≡ None
-    → OfHart mid h (λ hart. (hart.life ≡ Running) × MayTake mid hart (access_in hart) page) → new ≡ flat_after [] mid (Hart h) (Take page) → later ≡ now ++ entry h (Take page) ∷ [] → HasBegun s before new later h
-take_made s mid new before now later h page b inside may n appended = open_made s mid new before now later h (Take page) b inside may refl tt (rw inside refl) n appended
+pub take_made : (start : Moment) (mid new : FlatState) (before now later : List Entry) (h page : ℕ) → HasOpenUnit start before mid now h → mid.inside ≡ None
+    → OfHart mid h (λ hart. (hart.life ≡ Running) × MayTake mid hart (access_in hart) page) → new ≡ flat_after [] mid (Hart h) (Take page) → later ≡ now ++ entry h (Take page) ∷ [] → HasOpenUnit start before new later h
+take_made start mid new before now later h page b inside may n appended = open_made start mid new before now later h (Take page) b inside may refl (rw inside refl) n appended
 
-pub put_made : (s mid new : FlatState) (before now later : List Entry) (h va width value : ℕ) → HasBegun s before mid now h → mid.inside ≡ None
-    → OfHart mid h (λ hart. (hart.life ≡ Running) × MayPut mid h hart va width value) → new ≡ flat_after [] mid (Hart h) (Put va width value) → later ≡ now ++ entry h (Put va width value) ∷ [] → HasBegun s before new later h
-put_made s mid new before now later h va width value b inside may n appended = open_made s mid new before now later h (Put va width value) b inside may refl tt (rw inside refl) n appended
+pub put_made : (start : Moment) (mid new : FlatState) (before now later : List Entry) (h va width value : ℕ) → HasOpenUnit start before mid now h → mid.inside ≡ None
+    → OfHart mid h (λ hart. (hart.life ≡ Running) × MayPut mid h hart va width value) → new ≡ flat_after [] mid (Hart h) (Put va width value) → later ≡ now ++ entry h (Put va width value) ∷ [] → HasOpenUnit start before new later h
+put_made start mid new before now later h va width value b inside may n appended = open_made start mid new before now later h (Put va width value) b inside may refl (rw inside refl) n appended
 
-pub swap_made : (s mid new : FlatState) (before now later : List Entry) (h va width old value : ℕ) → HasBegun s before mid now h → mid.inside ≡ None
-    → OfHart mid h (λ hart. (hart.life ≡ Running) × MaySwap mid h hart va width old value) → new ≡ flat_after [] mid (Hart h) (Swap va width old value) → later ≡ now ++ entry h (Swap va width old value) ∷ [] → HasBegun s before new later h
-swap_made s mid new before now later h va width old value b inside may n appended = open_made s mid new before now later h (Swap va width old value) b inside may refl tt (rw inside refl) n appended
+pub swap_made : (start : Moment) (mid new : FlatState) (before now later : List Entry) (h va width old value : ℕ) → HasOpenUnit start before mid now h → mid.inside ≡ None
+    → OfHart mid h (λ hart. (hart.life ≡ Running) × MaySwap mid h hart va width old value) → new ≡ flat_after [] mid (Hart h) (Swap va width old value) → later ≡ now ++ entry h (Swap va width old value) ∷ [] → HasOpenUnit start before new later h
+swap_made start mid new before now later h va width old value b inside may n appended = open_made start mid new before now later h (Swap va width old value) b inside may refl (rw inside refl) n appended
 
-pub miss_made : (s mid new : FlatState) (before now later : List Entry) (h va : ℕ) → HasBegun s before mid now h → mid.inside ≡ None
-    → OfHart mid h (λ hart. (hart.life ≡ Running) × MayMiss mid h hart (access_in hart) va) → new ≡ flat_after [] mid (Hart h) (Miss va) → later ≡ now ++ entry h (Miss va) ∷ [] → HasBegun s before new later h
-miss_made s mid new before now later h va b inside may n appended = open_made s mid new before now later h (Miss va) b inside may refl tt (rw inside refl) n appended
+pub miss_made : (start : Moment) (mid new : FlatState) (before now later : List Entry) (h va : ℕ) → HasOpenUnit start before mid now h → mid.inside ≡ None
+    → OfHart mid h (λ hart. (hart.life ≡ Running) × MayMiss mid h hart (access_in hart) va) → new ≡ flat_after [] mid (Hart h) (Miss va) → later ≡ now ++ entry h (Miss va) ∷ [] → HasOpenUnit start before new later h
+miss_made start mid new before now later h va b inside may n appended = open_made start mid new before now later h (Miss va) b inside may refl (rw inside refl) n appended
 
 -- the hart goes on in its try
 pub look_acts : (s new : FlatState) (h va width value : ℕ) (held : Option ℕ) → IsActing s h held → new ≡ flat_after [] s (Hart h) (Look va width value) → IsActing new h held

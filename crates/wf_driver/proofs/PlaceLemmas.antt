@@ -4,16 +4,17 @@ use Rattle.wf_flat.specs.declared.event.Entry.{Entry}
 use Rattle.wf_flat.specs.Lists.{changed_at}
 use Rattle.wf_flat.specs.State.{FlatState, HartState}
 use Rattle.wf_flat.proofs.ListLemmas.{changed_next}
-use Rattle.wf_legal.specs.Legal.{Moment, at_rest, end_of}
+use Rattle.wf_legal.specs.Legal.{Moment, end_of}
+use Rattle.wf_outside.specs.Images.{DeltaValue}
 use Rattle.wf_report.specs.Listings.{ListingValue}
 use Rattle.wf_follow.specs.Places.{Place, behind, paced, unticked}
 use Rattle.wf_follow.specs.Units.{Times}
-use Rattle.wf_driver.specs.Machines.{MachineValue, place_of}
+use Rattle.wf_driver.specs.Machines.{MachineValue, moment_of, place_of}
 
 -- a machine, by its parts
-abbrev pub shown : FlatState → List Entry → List ListingValue → Option ℕ → MachineValue
-shown flat entries listings last =
-    record { flat = flat; entries = entries; listings = listings; last = last }
+abbrev pub shown : List DeltaValue → FlatState → List Entry → List ListingValue → Option ℕ → MachineValue
+shown deltas flat entries listings last =
+    record { deltas = deltas; flat = flat; entries = entries; listings = listings; last = last }
 
 -- a zero for each hart
 abbrev pub zeros : List HartState → List ℕ
@@ -42,13 +43,20 @@ same_place m n i j a b xs ys p q r s =
 
 -- the place behind entries of a hart
 pub place_behind : (old new : MachineValue) (h : ℕ) (made : List Entry) → new.entries ≡ old.entries ++ made → new.last ≡ old.last
-    → at_rest [] new.flat ≡ end_of (at_rest [] old.flat) made → length new.flat.harts ≡ length old.flat.harts
+    → moment_of new ≡ end_of (moment_of old) made → length new.flat.harts ≡ length old.flat.harts
     → place_of new ≡ paced h 0 (behind (place_of old) made)
 place_behind old new h made entries last reached harts =
-    same_place (at_rest [] new.flat) (end_of (at_rest [] old.flat) made) (length new.entries) (length old.entries + length made) new.last old.last
+    same_place (moment_of new) (end_of (moment_of old) made) (length new.entries) (length old.entries + length made) new.last old.last
     (zeros new.flat.harts) (changed_at (zeros old.flat.harts) h (λ pace. 0)) reached
     (ap (λ (es : List Entry). length es) entries ∙ length-append old.entries made) last
     (zeros_same new.flat.harts old.flat.harts harts ∙ sym (zeros_changed old.flat.harts h))
+
+-- and behind those of the kernel's own actor
+pub place_along : (old new : MachineValue) (made : List Entry) → new.entries ≡ old.entries ++ made → new.last ≡ old.last
+    → moment_of new ≡ end_of (moment_of old) made → length new.flat.harts ≡ length old.flat.harts → place_of new ≡ behind (place_of old) made
+place_along old new made entries last reached harts =
+    same_place (moment_of new) (end_of (moment_of old) made) (length new.entries) (length old.entries + length made) new.last old.last (zeros new.flat.harts) (zeros old.flat.harts) reached
+    (ap (λ (es : List Entry). length es) entries ∙ length-append old.entries made) last (zeros_same new.flat.harts old.flat.harts harts)
 
 -- one more of a way
 pub times_push : (n : ℕ) (One : Place → List Entry → Place → Type 0) (p q r : Place) (es fs : List Entry) → Times n One p es q → One q fs r → Times (suc n) One p (es ++ fs) r

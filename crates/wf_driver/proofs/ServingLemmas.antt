@@ -26,11 +26,12 @@ use Rattle.wf_driver.specs.declared.finding.Found.{Found}
 use Rattle.wf_driver.specs.declared.actions.Operand.{Operand}
 use Rattle.wf_driver.specs.declared.actions.Write.{Write}
 use Rattle.wf_driver.specs.declared.actions.Write.TheVariants.{Put, PutIf, Swap}
-use Rattle.wf_driver.specs.Stepping.{IsTrying, InAccess, IsLoad, IsStore, IsSettled, IsFound, IsPageToSync, IsMeeting, IsToDo, IsNear, WillReach, WillWrite, load_at, store_at, load_want, store_want}
+use Rattle.wf_service.specs.Resting.{IsSettled}
+use Rattle.wf_driver.specs.Stepping.{IsTrying, InAccess, IsLoad, IsStore, IsFoundPage, IsPageToSync, IsMeeting, IsToDo, IsNear, WillReach, WillWrite, load_at, store_at, load_want, store_want}
 use Rattle.wf_flat.proofs.ListLemmas.{some_and, and_some}
 use Rattle.wf_driver.proofs.StepLemmas.{both, each}
 use Rattle.wf_flat.proofs.FoundLemmas.{data_number}
-use Rattle.wf_driver.proofs.AccessLemmas.{wanted, accessed, found_free, not_held, faults, barred_by, text_bars, todo_in_text, todo_without_text, reach, free_reads, held_reads, free_taken}
+use Rattle.wf_driver.proofs.AccessLemmas.{wanted, accessed, found_free, not_held, fault_asked, fault_calls, faults, barred_by, text_bars, todo_in_text, todo_without_text, reach, free_reads, held_reads, free_taken}
 use Rattle.wf_driver.proofs.MakingLemmas.{still_in, held_page, holds_by, met_now}
 
 -- no text of the hart's generation is at the address
@@ -127,7 +128,8 @@ missing s h arch inst access free ready kept e text none =
     (λ (hart : HartState). IsToDo s h hart (Exactly (events.Trap (if access.write then 15 else 13) access.va) ∷ []))
     (λ hart is t. (
       t.0.0.0,
-      faults s h hart arch inst access free t.0.0 t.0.1 e (barred_by s hart access t.1 (ap (is_open s hart access) none)) ∙ todo_without_text s hart access t.1 ∙ rw none refl,
+      fault_calls s h hart access (fault_asked s h hart arch inst access free t.0.0 t.0.1 e (barred_by s hart access t.1 (ap (is_open s hart access) none))),
+      λ deltas. faults s h hart access (fault_asked s h hart arch inst access free t.0.0 t.0.1 e (barred_by s hart access t.1 (ap (is_open s hart access) none))) deltas ∙ todo_without_text s hart access t.1 ∙ rw none refl,
     )) (both (slice_get s.harts h) _ _ (both (slice_get s.harts h) _ _ ready kept) text)
 
 -- to text, which is not written
@@ -138,7 +140,8 @@ in_text s h arch inst access free ready kept e text writes =
     (λ (hart : HartState). IsToDo s h hart (Exactly (events.Trap 15 access.va) ∷ []))
     (λ hart is t. (
       t.0.0.0,
-      faults s h hart arch inst access free t.0.0 t.0.1 e (text_bars s hart access t.1 writes) ∙ todo_in_text s hart access t.1 ∙ ap (λ (b : Bool). Exactly (events.Trap (if b then 15 else 13) access.va) ∷ []) writes,
+      fault_calls s h hart access (fault_asked s h hart arch inst access free t.0.0 t.0.1 e (text_bars s hart access t.1 writes)),
+      λ deltas. faults s h hart access (fault_asked s h hart arch inst access free t.0.0 t.0.1 e (text_bars s hart access t.1 writes)) deltas ∙ todo_in_text s hart access t.1 ∙ ap (λ (b : Bool). Exactly (events.Trap (if b then 15 else 13) access.va) ∷ []) writes,
     )) (both (slice_get s.harts h) _ _ (both (slice_get s.harts h) _ _ ready kept) text)
 
 -- to a page that may not be written
@@ -148,7 +151,7 @@ and_false true false = refl
 and_false false b = refl
 
 pub denied : (s : FlatState) (h : ℕ) (arch : ArchState) (inst : Inst) (access : Access) (found : Found) → AllByRecursion IsSettled s.pages → InAccess s h arch inst → IsKept s h → access_of (Some (want_of inst arch)) ≡ Some access → IsTextless s h access.va
-    → IsFound s (page_of access.va) found → access.write ≡ true → not found.write ≡ true → OfHart s h (λ hart. IsToDo s h hart (Exactly (events.Trap 15 access.va) ∷ []))
+    → IsFoundPage s (page_of access.va) found → access.write ≡ true → not found.write ≡ true → OfHart s h (λ hart. IsToDo s h hart (Exactly (events.Trap 15 access.va) ∷ []))
 denied s h arch inst access found free ready kept e text found_is writes denies =
     let d = some_and (data_in s.pages (page_of access.va)) _ found_is in
     let here = found_free s.pages (page_of access.va) d.0 free d.1 in
@@ -158,7 +161,8 @@ denied s h arch inst access found free ready kept e text found_is writes denies 
     (λ (hart : HartState). IsToDo s h hart (Exactly (events.Trap 15 access.va) ∷ []))
     (λ hart is t. (
       t.0.0.0,
-      faults s h hart arch inst access free t.0.0 t.0.1 e (barred_by s hart access t.1 (rw d.1 (rw (here.0, right) (and_false true (has_met s.met hart.generation d.0.number)))))
+      fault_calls s h hart access (fault_asked s h hart arch inst access free t.0.0 t.0.1 e (barred_by s hart access t.1 (rw d.1 (rw (here.0, right) (and_false true (has_met s.met hart.generation d.0.number)))))),
+      λ deltas. faults s h hart access (fault_asked s h hart arch inst access free t.0.0 t.0.1 e (barred_by s hart access t.1 (rw d.1 (rw (here.0, right) (and_false true (has_met s.met hart.generation d.0.number)))))) deltas
           ∙ todo_without_text s hart access t.1 ∙ rw d.1 (rw (here.0, right, writes) refl),
     )) (both (slice_get s.harts h) _ _ (both (slice_get s.harts h) _ _ ready kept) text)
 
@@ -168,7 +172,7 @@ todo_sync s hart access page is here right page_to_sync = rw is (rw (here, right
 
 -- a page that was not met is met first
 pub meets : (s : FlatState) (h : ℕ) (arch : ArchState) (inst : Inst) (access : Access) (found : Found) (met : Option (List (ℕ × ℕ))) → AllByRecursion IsSettled s.pages → InAccess s h arch inst → IsKept s h → access_of (Some (want_of inst arch)) ≡ Some access
-    → IsTextless s h access.va → IsFound s (page_of access.va) found → ((page : PageState) → page.write ≡ found.write → has_right access page ≡ true) → IsPageToSync s h access.va met → IsMeeting s h found.page met
+    → IsTextless s h access.va → IsFoundPage s (page_of access.va) found → ((page : PageState) → page.write ≡ found.write → has_right access page ≡ true) → IsPageToSync s h access.va met → IsMeeting s h found.page met
 meets s h arch inst access found None free ready kept e text found_is right page_to_sync =
     let d = some_and (data_in s.pages (page_of access.va)) _ found_is in
     let met : OfHart s h (λ hart. has_met s.met hart.generation d.0.number ≡ true) = subst (λ (o : Option PageState). IfSome o (λ page. OfHart s h (λ hart. has_met s.met hart.generation page.number ≡ true))) d.1 page_to_sync in
@@ -186,7 +190,8 @@ meets s h arch inst access found (Some met) free ready kept e text found_is righ
     (λ hart is t. (
       (
         t.0.0.0.0,
-        faults s h hart arch inst access free t.0.0.0 t.0.0.1 e (barred_by s hart access t.0.1 (rw d.1 (rw (here.0, t.1.0) refl)))
+        fault_calls s h hart access (fault_asked s h hart arch inst access free t.0.0.0 t.0.0.1 e (barred_by s hart access t.0.1 (rw d.1 (rw (here.0, t.1.0) refl)))),
+        λ deltas. faults s h hart access (fault_asked s h hart arch inst access free t.0.0.0 t.0.0.1 e (barred_by s hart access t.0.1 (rw d.1 (rw (here.0, t.1.0) refl)))) deltas
             ∙ todo_without_text s hart access t.0.1 ∙ todo_sync s hart access d.0 d.1 here.0 may t.1.0,
       ),
       t.1.1,
@@ -230,7 +235,7 @@ text_looks s h value arch operand reserving load ready read =
     )) (both (slice_get s.harts h) _ _ ready read)
 
 -- below the last count of writes a load looks at once
-pub free_looks : (s : FlatState) (h value : ℕ) (arch : ArchState) (operand : Operand) (reserving : Bool) (found : Found) → AllByRecursion IsSettled s.pages → IsLoad arch operand reserving → InAccess s h arch operand.inst → IsFound s (page_of operand.va) found
+pub free_looks : (s : FlatState) (h value : ℕ) (arch : ArchState) (operand : Operand) (reserving : Bool) (found : Found) → AllByRecursion IsSettled s.pages → IsLoad arch operand reserving → InAccess s h arch operand.inst → IsFoundPage s (page_of operand.va) found
     → IsNear s h operand.va found.page → found.last ≡ false → IfSome (data_in s.pages (page_of operand.va)) (λ page. value ≡ number_in page.words (operand.va % 4096) operand.width)
     → OfHart s h (λ hart. (hart.life ≡ Running) × MayLook s h hart operand.va operand.width value)
 free_looks s h value arch operand reserving found free load ready found_is near below read =
@@ -250,7 +255,7 @@ free_looks s h value arch operand reserving found free load ready found_is near 
     )) (both (slice_get s.harts h) _ _ ready near))
 
 -- at the last one it takes the page
-pub last_takes : (s : FlatState) (h : ℕ) (arch : ArchState) (operand : Operand) (reserving : Bool) (found : Found) → AllByRecursion IsSettled s.pages → IsLoad arch operand reserving → InAccess s h arch operand.inst → IsFound s (page_of operand.va) found
+pub last_takes : (s : FlatState) (h : ℕ) (arch : ArchState) (operand : Operand) (reserving : Bool) (found : Found) → AllByRecursion IsSettled s.pages → IsLoad arch operand reserving → InAccess s h arch operand.inst → IsFoundPage s (page_of operand.va) found
     → IsNear s h operand.va found.page → found.last ≡ true → OfHart s h (λ hart. (hart.life ≡ Running) × MayTake s hart (access_in hart) found.page)
 last_takes s h arch operand reserving found free load ready found_is near last =
     let d = some_and (data_in s.pages (page_of operand.va)) _ found_is in
@@ -269,7 +274,7 @@ last_takes s h arch operand reserving found free load ready found_is near last =
     by_test hart page high true = rw high refl
     by_test hart page high false = rw high refl
 
-pub write_takes : (s : FlatState) (h : ℕ) (arch : ArchState) (operand : Operand) (write : Write) (found : Found) → AllByRecursion IsSettled s.pages → IsStore arch operand write → InAccess s h arch operand.inst → IsFound s (page_of operand.va) found
+pub write_takes : (s : FlatState) (h : ℕ) (arch : ArchState) (operand : Operand) (write : Write) (found : Found) → AllByRecursion IsSettled s.pages → IsStore arch operand write → InAccess s h arch operand.inst → IsFoundPage s (page_of operand.va) found
     → IsNear s h operand.va found.page → found.write ≡ true → WillWrite s h operand write true → OfHart s h (λ hart. (hart.life ≡ Running) × MayTake s hart (access_in hart) found.page)
 write_takes s h arch operand write found free store ready found_is near right will =
     let d = some_and (data_in s.pages (page_of operand.va)) _ found_is in
@@ -293,19 +298,19 @@ pub record IsTaken (s new : FlatState) (h va number : ℕ) : Type 0 where
   pub old_page : data_in s.pages (page_of va) ≡ Some page
   pub new_page : data_in new.pages (page_of va) ≡ Some (taken_by h page)
 
-pub taken : (s new : FlatState) (h va : ℕ) (found : Found) → IsFound s (page_of va) found → data_in new.pages found.page ≡ option_map (taken_by h) (data_in s.pages found.page) → IsTaken s new h va found.page
+pub taken : (s new : FlatState) (h va : ℕ) (found : Found) → IsFoundPage s (page_of va) found → data_in new.pages found.page ≡ option_map (taken_by h) (data_in s.pages found.page) → IsTaken s new h va found.page
 taken s new h va found is page =
     let d = some_and (data_in s.pages (page_of va)) _ is in
     let number : found.page ≡ page_of va = d.2.0 ∙ data_number s.pages (page_of va) d.0 d.1 in
     let there : data_in new.pages (page_of va) ≡ option_map (taken_by h) (data_in s.pages (page_of va)) = subst (λ (n : ℕ). data_in new.pages n ≡ option_map (taken_by h) (data_in s.pages n)) number page in
     record { page = d.0; number_is = number; old_page = d.1; new_page = there ∙ ap (option_map (taken_by h)) d.1 }
 
-pub taken_held : (s new : FlatState) (h : ℕ) (access : Access) (found : Found) → IsFound s (page_of access.va) found → data_in new.pages found.page ≡ option_map (taken_by h) (data_in s.pages found.page) → Some found.page ≡ held_by new h (Some access)
+pub taken_held : (s new : FlatState) (h : ℕ) (access : Access) (found : Found) → IsFoundPage s (page_of access.va) found → data_in new.pages found.page ≡ option_map (taken_by h) (data_in s.pages found.page) → Some found.page ≡ held_by new h (Some access)
 taken_held s new h access found is page =
     let t = taken s new h access.va found is page in
     ap Some t.number_is ∙ held_page new h access (taken_by h t.page) t.new_page refl
 
-pub taken_looks : (s new : FlatState) (h value : ℕ) (arch : ArchState) (operand : Operand) (reserving : Bool) (found : Found) → IsLoad arch operand reserving → InAccess s h arch operand.inst → IsFound s (page_of operand.va) found → IsNear s h operand.va found.page
+pub taken_looks : (s new : FlatState) (h value : ℕ) (arch : ArchState) (operand : Operand) (reserving : Bool) (found : Found) → IsLoad arch operand reserving → InAccess s h arch operand.inst → IsFoundPage s (page_of operand.va) found → IsNear s h operand.va found.page
     → new.harts ≡ s.harts → new.gens ≡ s.gens → data_in new.pages found.page ≡ option_map (taken_by h) (data_in s.pages found.page) → IfSome (data_in s.pages (page_of operand.va)) (λ page. value ≡ number_in page.words (operand.va % 4096) operand.width)
     → OfHart new h (λ hart. (hart.life ≡ Running) × MayLook new h hart operand.va operand.width value)
 taken_looks s new h value arch operand reserving found load ready is near harts gens page read =
@@ -408,7 +413,7 @@ lost_misses s h arch operand write lost free store ready is e =
     (t.0.0, subst (λ (o : Option Access). MayMiss s h hart o operand.va) (sym (accessed arch operand.inst hart (store_at operand) t.0 (store_access arch operand write store))) may))
     (both (slice_get s.harts h) _ _ ready is)
 
-pub idle_is_conditional : (s : FlatState) (h : ℕ) (arch : ArchState) (operand : Operand) (write : Write) (found : Found) → IsStore arch operand write → IsFound s (page_of operand.va) found → WillWrite s h operand write false
+pub idle_is_conditional : (s : FlatState) (h : ℕ) (arch : ArchState) (operand : Operand) (write : Write) (found : Found) → IsStore arch operand write → IsFoundPage s (page_of operand.va) found → WillWrite s h operand write false
     → is_conditional (Some (want_of operand.inst arch)) ≡ true
 idle_is_conditional s h arch operand write found store found_is will =
     let d = some_and (data_in s.pages (page_of operand.va)) _ found_is in
@@ -421,7 +426,7 @@ or_true : (a b : Bool) → b ≡ true → (a || b) ≡ true
 or_true true b e = refl
 or_true false b e = e
 
-pub idle_misses : (s : FlatState) (h : ℕ) (arch : ArchState) (operand : Operand) (write : Write) (found : Found) → AllByRecursion IsSettled s.pages → IsStore arch operand write → InAccess s h arch operand.inst → IsFound s (page_of operand.va) found
+pub idle_misses : (s : FlatState) (h : ℕ) (arch : ArchState) (operand : Operand) (write : Write) (found : Found) → AllByRecursion IsSettled s.pages → IsStore arch operand write → InAccess s h arch operand.inst → IsFoundPage s (page_of operand.va) found
     → IsNear s h operand.va found.page → found.write ≡ true → WillWrite s h operand write false → OfHart s h (λ hart. (hart.life ≡ Running) × MayMiss s h hart (access_in hart) operand.va)
 idle_misses s h arch operand write found free store ready found_is near right will =
     let d = some_and (data_in s.pages (page_of operand.va)) _ found_is in
@@ -443,5 +448,5 @@ idle_misses s h arch operand write found free store ready found_is near right wi
     (both (slice_get s.harts h) _ _ (both (slice_get s.harts h) _ _ ready near) will)
 
 -- what was found is there where pages and limits stay
-pub found_same : (s new : FlatState) (number : ℕ) (found : Found) → new.pages ≡ s.pages → new.limits ≡ s.limits → IsFound s number found → IsFound new number found
+pub found_same : (s new : FlatState) (number : ℕ) (found : Found) → new.pages ≡ s.pages → new.limits ≡ s.limits → IsFoundPage s number found → IsFoundPage new number found
 found_same s new number found pages limits is = rw (pages, limits) is

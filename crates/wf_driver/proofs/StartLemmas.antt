@@ -3,14 +3,21 @@ use Rattle.std.proofs.Common.{◌≡◌, ◌≤◌, ◌++◌, ◌+◌, ℕ, zero
 use Rattle.std.specs.List.{AllByRecursion}
 use Rattle.wf_outside.specs.Pages.{DataPageValue, LimitsValue}
 use Rattle.wf_outside.specs.Images.{ImageValue}
+use Rattle.wf_flat.specs.declared.event.Entry.{Entry}
 use Rattle.wf_flat.specs.State.{FlatState, HartState, PageState}
 use Rattle.wf_flat.specs.Lists.{sorted_by}
 use Rattle.wf_flat.specs.Ordered.{IsOrdered}
 use Rattle.wf_flat.specs.Boot.{boot_harts, boot_hart, boot_of, boot_pages, fresh_page, numbered_from, stack_of, stacks_of}
 use Rattle.wf_flat.proofs.ListLemmas.{all_append}
 use Rattle.wf_flat.proofs.SortLemmas.{all_sorted}
-use Rattle.wf_driver.specs.Stepping.{IsSettled}
-use Rattle.wf_driver.specs.Making.{IsReady}
+use Rattle.wf_outside.specs.declared.sizes.TheConstants.{MOST_FRAMES}
+use Rattle.wf_outside.specs.Images.{DeltaValue}
+use Rattle.wf_flat.specs.Counts.{used_of}
+use Rattle.wf_legal.specs.Legal.{at_rest}
+use Rattle.wf_sound.specs.Laws.{IsStart, StartsAreSound}
+use Rattle.wf_sound.specs.Sound.{IsSound}
+use Rattle.wf_service.specs.Resting.{IsSettled}
+use Rattle.wf_driver.specs.Keeping.{IsReady}
 
 fresh_settled : (pages : List DataPageValue) → AllByRecursion IsSettled (map fresh_page pages)
 fresh_settled [] = tt
@@ -42,16 +49,27 @@ unfolding boot_harts
 harts_length entry zero = refl
 harts_length entry (suc n) = let rest = harts_length entry n in let both = length-append (boot_harts entry n) (boot_hart entry n ∷ []) in omega arith
 
-boot_ready : (image : ImageValue) (harts : ℕ) (limits : LimitsValue) → 1 ≤ harts → harts ≤ 64 → IsOrdered (boot_of image harts limits) → IsReady (boot_of image harts limits)
-boot_ready image harts limits some few ordered =
+-- the births of a start are its pages, of which there are no more than frames
+few_births : (image : ImageValue) (harts : ℕ) (limits : LimitsValue) → used_of (boot_of image harts limits) ≤ limits.frames → limits.frames ≤ MOST_FRAMES → (boot_of image harts limits).births ≤ MOST_FRAMES
+few_births image harts limits fits few = omega arith
+
+boot_ready : (deltas : List DeltaValue) (image : ImageValue) (harts : ℕ) (limits : LimitsValue) → 1 ≤ harts → IsStart deltas image harts limits → IsOrdered (boot_of image harts limits) → IsSound (at_rest deltas (boot_of image harts limits))
+    → IsReady deltas (boot_of image harts limits) []
+boot_ready deltas image harts limits some start ordered sound =
     let e : length (boot_harts image.entry harts) ≡ harts = harts_length image.entry harts in
     record {
       rests = record { no_one = refl; no_try = no_tries image.entry harts; ordered = ordered; free = boot_settled image harts };
       some = rw e some;
-      few = rw e few;
+      few = rw e start.few_harts;
+      start = boot_of image harts limits;
+      sound = sound;
+      births = few_births image harts limits start.frames start.sizes.many_frames;
+      legal = tt;
+      reached = refl;
     }
 
 -- so it is ready
-pub starts_ready : (image : ImageValue) (harts : ℕ) (limits : LimitsValue) (flat : FlatState) → flat ≡ boot_of image harts limits → 1 ≤ harts → harts ≤ 64 → IsOrdered flat → IsReady flat
-starts_ready image harts limits flat is some few ordered =
-    subst IsReady (sym is) (boot_ready image harts limits some few (subst IsOrdered is ordered))
+pub starts_ready : (deltas : List DeltaValue) (image : ImageValue) (harts : ℕ) (limits : LimitsValue) (flat : FlatState) (entries : List Entry) → flat ≡ boot_of image harts limits → entries ≡ [] → 1 ≤ harts → IsStart deltas image harts limits → IsOrdered flat → StartsAreSound
+    → IsReady deltas flat entries
+starts_ready deltas image harts limits flat entries is none some start ordered law =
+    subst (IsReady deltas flat) (sym none) (subst (λ (s : FlatState). IsReady deltas s []) (sym is) (boot_ready deltas image harts limits some start (subst IsOrdered is ordered) (law deltas image harts limits start)))

@@ -13,22 +13,23 @@ use Rattle.wf_flat.specs.State.{FlatState, HartState, PageState}
 use Rattle.wf_flat.specs.Lists.{changed_at, changed_by}
 use Rattle.wf_flat.specs.declared.state.Life.TheVariants.{Running}
 use Rattle.wf_flat.specs.declared.state.Stage.TheVariants.{Here}
+use Rattle.wf_outside.specs.Images.{DeltaValue}
 use Rattle.wf_outside.specs.Pages.{page_of}
 use Rattle.wf_flat.specs.Ordered.{IsOrdered}
-use Rattle.wf_flat.specs.Serving.{AllBut, IsAlone, held_by}
+use Rattle.wf_flat.specs.Serving.{AllBut, held_by}
 use Rattle.wf_flat.specs.Accesses.{Access, holds}
 use Rattle.wf_flat.specs.Steps.{OfHart, MayAct, access_in, arch_after, is_inside}
 use Rattle.wf_legal.specs.Events.{flat_after}
-use Rattle.wf_flat.specs.Changes.{change_hart, change_page, leave_hart, note_page, without, fetched_with, ended, answered, given_back, give_back, give_back_by, give_back_of}
+use Rattle.wf_flat.specs.Changes.{change_page, leave_hart, note_page, without, fetched_with, ended, given_back, give_back, give_back_by, give_back_of}
 use Rattle.wf_legal.specs.Calls.{GoesOn}
 use Rattle.wf_legal.specs.Legal.{Moment, Allows, IsLegal, after, end_of, at_rest}
-use Rattle.wf_follow.specs.Built.{IsBuilt, IsUnbuilt, StandsAtBuilt}
 use Rattle.wf_flat.specs.Follows.{IsUnit, ends_unit}
-use Rattle.wf_driver.specs.Stepping.{IsResting, IsActing, IsSettled, IsAt, IsDone, IsOpen, HasBegun, Continues}
+use Rattle.wf_service.specs.Adding.{IsOpen}
+use Rattle.wf_service.specs.Resting.{IsResting, IsSettled}
+use Rattle.wf_driver.specs.Stepping.{IsActing, IsAt, IsDone, HasOpenUnit, Continues}
 use Rattle.wf_legal.proofs.JournalLemmas.{legal-append, end_of-append, self_inside}
 use Rattle.wf_flat.proofs.ListLemmas.{some_and, and_some, changed_next, length_changed}
 use Rattle.wf_flat.proofs.ChangeLemmas.{note_alone, same_ordered}
-use Rattle.wf_driver.proofs.BuiltLemmas.{built-append}
 
 abbrev pub entry : ℕ → Event → Entry
 entry h event = record { actor = Hart h; event = event }
@@ -117,8 +118,8 @@ no_try_of (x ∷ xs) zero hart all is = let e : x ≡ hart = cc in subst (λ (y 
 no_try_of (x ∷ xs) (suc h) hart all is = no_try_of xs h hart all.1 is
 
 -- a unit that has not begun
-pub begins : (s : FlatState) (before : List Entry) (h : ℕ) → HasBegun s before s before h
-begins s before h = record { made = []; appended = sym (append-nil before); legal = tt; built = tt; reached = refl; open_yet = tt }
+pub begins : (deltas : List DeltaValue) (s : FlatState) (before : List Entry) (h : ℕ) → HasOpenUnit (at_rest deltas s) before s before h
+begins deltas s before h = record { made = []; appended = sym (append-nil before); legal = tt; reached = refl; fits = tt }
 
 unit_join : (h : ℕ) (es fs : List Entry) → IsOpen h es → IsUnit h fs → IsUnit h (es ++ fs)
 unit_join h [] fs o u = u
@@ -129,65 +130,63 @@ open_join h [] fs o u = u
 open_join h (e ∷ es) fs o u = (o.0, open_join h es fs o.1 u)
 
 -- it goes on, and it ends
-pub goes_on : (s mid new : FlatState) (before now later : List Entry) (h : ℕ) (made : List Entry)
-    → HasBegun s before mid now h → IsLegal (at_rest [] mid) made → IsBuilt (at_rest [] mid) made → at_rest [] new ≡ end_of (at_rest [] mid) made → IsOpen h made → later ≡ now ++ made → HasBegun s before new later h
-goes_on s mid new before now later h made b l t r o e =
+pub goes_on : (start : Moment) (mid new : FlatState) (before now later : List Entry) (h : ℕ) (made : List Entry)
+    → HasOpenUnit start before mid now h → IsLegal (at_rest start.deltas mid) made → at_rest start.deltas new ≡ end_of (at_rest start.deltas mid) made → IsOpen h made → later ≡ now ++ made → HasOpenUnit start before new later h
+goes_on start mid new before now later h made b l r o e =
     record {
       made = b.made ++ made;
       appended = e ∙ ap (λ (xs : List Entry). xs ++ made) b.appended ∙ append_assoc before b.made made;
-      legal = legal-append (at_rest [] s) b.made made b.legal (rw (← b.reached) l);
-      built = built-append (at_rest [] s) b.made made b.built (rw (← b.reached) t);
-      reached = r ∙ ap (λ (m : Moment). end_of m made) b.reached ∙ sym (end_of-append (at_rest [] s) b.made made);
-      open_yet = open_join h b.made made b.open_yet o;
+      legal = legal-append start b.made made b.legal (rw (← b.reached) l);
+      reached = r ∙ ap (λ (m : Moment). end_of m made) b.reached ∙ sym (end_of-append start b.made made);
+      fits = open_join h b.made made b.fits o;
     }
 
-pub ends : (s mid new : FlatState) (before now later : List Entry) (h : ℕ) (made : List Entry)
-    → HasBegun s before mid now h → IsLegal (at_rest [] mid) made → IsBuilt (at_rest [] mid) made → at_rest [] new ≡ end_of (at_rest [] mid) made → IsUnit h made → later ≡ now ++ made → Continues s before new later (IsUnit h)
-ends s mid new before now later h made b l t r u e =
+pub ends : (start : Moment) (mid new : FlatState) (before now later : List Entry) (h : ℕ) (made : List Entry)
+    → HasOpenUnit start before mid now h → IsLegal (at_rest start.deltas mid) made → at_rest start.deltas new ≡ end_of (at_rest start.deltas mid) made → IsUnit h made → later ≡ now ++ made → Continues start before new later (IsUnit h)
+ends start mid new before now later h made b l r u e =
     record {
       made = b.made ++ made;
       appended = e ∙ ap (λ (xs : List Entry). xs ++ made) b.appended ∙ append_assoc before b.made made;
-      legal = legal-append (at_rest [] s) b.made made b.legal (rw (← b.reached) l);
-      built = built-append (at_rest [] s) b.made made b.built (rw (← b.reached) t);
-      reached = r ∙ ap (λ (m : Moment). end_of m made) b.reached ∙ sym (end_of-append (at_rest [] s) b.made made);
-      fits = unit_join h b.made made b.open_yet u;
+      legal = legal-append start b.made made b.legal (rw (← b.reached) l);
+      reached = r ∙ ap (λ (m : Moment). end_of m made) b.reached ∙ sym (end_of-append start b.made made);
+      fits = unit_join h b.made made b.fits u;
     }
 
 -- the moment after an entry outside, which leaves nobody inside
-after_fetch : (s : FlatState) (h pc word : ℕ) → s.inside ≡ None → after (at_rest [] s) (Hart h) (Fetch pc word) ≡ at_rest [] (flat_after [] s (Hart h) (Fetch pc word))
-after_fetch s h pc word rest = rw rest refl
+after_fetch : (deltas : List DeltaValue) (s : FlatState) (h pc word : ℕ) → s.inside ≡ None → after (at_rest deltas s) (Hart h) (Fetch pc word) ≡ at_rest deltas (flat_after deltas s (Hart h) (Fetch pc word))
+after_fetch deltas s h pc word rest = rw rest refl
 
-after_end : (s : FlatState) (h pc : ℕ) → s.inside ≡ None → after (at_rest [] s) (Hart h) (End pc) ≡ at_rest [] (flat_after [] s (Hart h) (End pc))
-after_end s h pc rest = rw rest refl
+after_end : (deltas : List DeltaValue) (s : FlatState) (h pc : ℕ) → s.inside ≡ None → after (at_rest deltas s) (Hart h) (End pc) ≡ at_rest deltas (flat_after deltas s (Hart h) (End pc))
+after_end deltas s h pc rest = rw rest refl
 
 -- a fetch
-pub fetch_made : (s mid new : FlatState) (before now later : List Entry) (h pc word : ℕ) → HasBegun s before mid now h → mid.inside ≡ None → OfHart mid h (λ hart. IsAt mid hart pc word) → (IsUnbuilt mid h pc → ⊥)
-    → new ≡ flat_after [] mid (Hart h) (Fetch pc word) → later ≡ now ++ entry h (Fetch pc word) ∷ [] → HasBegun s before new later h
-fetch_made s mid new before now later h pc word b t ready built n e =
+pub fetch_made : (start : Moment) (mid new : FlatState) (before now later : List Entry) (h pc word : ℕ) → HasOpenUnit start before mid now h → mid.inside ≡ None → OfHart mid h (λ hart. IsAt mid hart pc word)
+    → new ≡ flat_after [] mid (Hart h) (Fetch pc word) → later ≡ now ++ entry h (Fetch pc word) ∷ [] → HasOpenUnit start before new later h
+fetch_made start mid new before now later h pc word b t ready n e =
     let w = some_and (slice_get mid.harts h) _ ready in
     let may : MayAct mid (Hart h) (Fetch pc word) = and_some (slice_get mid.harts h) _ w.0 w.1 (w.2.0, (w.2.1, w.2.2, w.2.3)) in
-    goes_on s mid new before now later h (entry h (Fetch pc word) ∷ []) b (allowed_outside (at_rest [] mid) h (Fetch pc word) t may, tt) (built, tt)
-    (ap (at_rest []) n ∙ sym (after_fetch mid h pc word t)) ((refl, refl), tt) e
+    goes_on start mid new before now later h (entry h (Fetch pc word) ∷ []) b (allowed_outside (at_rest start.deltas mid) h (Fetch pc word) t may, tt)
+    (ap (at_rest start.deltas) n ∙ sym (after_fetch start.deltas mid h pc word t)) ((refl, refl), tt) e
 
 -- an event outside that ends no unit
-pub open_made : (s mid new : FlatState) (before now later : List Entry) (h : ℕ) (e : Event) → HasBegun s before mid now h → mid.inside ≡ None → MayAct mid (Hart h) e → ends_unit e ≡ false → StandsAtBuilt (at_rest [] mid) (Hart h) e
-    → after (at_rest [] mid) (Hart h) e ≡ at_rest [] (flat_after [] mid (Hart h) e) → new ≡ flat_after [] mid (Hart h) e → later ≡ now ++ entry h e ∷ [] → HasBegun s before new later h
-open_made s mid new before now later h e b inside may unended built step n appended =
-    goes_on s mid new before now later h (entry h e ∷ []) b (allowed_outside (at_rest [] mid) h e inside may, tt) (built, tt) (ap (at_rest []) n ∙ sym step) ((refl, unended), tt) appended
+pub open_made : (start : Moment) (mid new : FlatState) (before now later : List Entry) (h : ℕ) (e : Event) → HasOpenUnit start before mid now h → mid.inside ≡ None → MayAct mid (Hart h) e → ends_unit e ≡ false
+    → after (at_rest start.deltas mid) (Hart h) e ≡ at_rest start.deltas (flat_after start.deltas mid (Hart h) e) → new ≡ flat_after start.deltas mid (Hart h) e → later ≡ now ++ entry h e ∷ [] → HasOpenUnit start before new later h
+open_made start mid new before now later h e b inside may unended step n appended =
+    goes_on start mid new before now later h (entry h e ∷ []) b (allowed_outside (at_rest start.deltas mid) h e inside may, tt) (ap (at_rest start.deltas) n ∙ sym step) ((refl, unended), tt) appended
 
 -- an end outside
-pub end_made : (s mid new : FlatState) (before now later : List Entry) (h : ℕ) (held : Option ℕ) (next : ArchState) → HasBegun s before mid now h → mid.inside ≡ None → IsDone mid h held next
-    → new ≡ flat_after [] mid (Hart h) (End next.pc) → later ≡ now ++ entry h (End next.pc) ∷ [] → Continues s before new later (IsUnit h)
-end_made s mid new before now later h held next b t ready n e =
+pub end_made : (start : Moment) (mid new : FlatState) (before now later : List Entry) (h : ℕ) (held : Option ℕ) (next : ArchState) → HasOpenUnit start before mid now h → mid.inside ≡ None → IsDone mid h held next
+    → new ≡ flat_after [] mid (Hart h) (End next.pc) → later ≡ now ++ entry h (End next.pc) ∷ [] → Continues start before new later (IsUnit h)
+end_made start mid new before now later h held next b t ready n e =
     let w = some_and (slice_get mid.harts h) _ ready in
     let may : MayAct mid (Hart h) (End next.pc) = and_some (slice_get mid.harts h) _ w.0 w.1 (w.2.0, (w.2.1, ap (λ (a : ArchState). a.pc) w.2.3)) in
-    ends s mid new before now later h (entry h (End next.pc) ∷ []) b (allowed_outside (at_rest [] mid) h (End next.pc) t may, tt) (tt, tt)
-    (ap (at_rest []) n ∙ sym (after_end mid h next.pc t)) (refl, refl) e
+    ends start mid new before now later h (entry h (End next.pc) ∷ []) b (allowed_outside (at_rest start.deltas mid) h (End next.pc) t may, tt)
+    (ap (at_rest start.deltas) n ∙ sym (after_end start.deltas mid h next.pc t)) (refl, refl) e
 
 -- a hart that has stopped idles
-pub idle_made : (s : FlatState) (before now : List Entry) (h : ℕ) → s.inside ≡ None → OfHart s h (λ hart. hart.life ≢ Running) → now ≡ before ++ entry h Idle ∷ [] → Continues s before s now (IsUnit h)
-idle_made s before now h rest may e =
-    ends s s s before before now h (entry h Idle ∷ []) (begins s before h) (allowed_outside (at_rest [] s) h Idle rest may, tt) (tt, tt) (rw rest refl) (refl, refl) e
+pub idle_made : (deltas : List DeltaValue) (s : FlatState) (before now : List Entry) (h : ℕ) → s.inside ≡ None → OfHart s h (λ hart. hart.life ≢ Running) → now ≡ before ++ entry h Idle ∷ [] → Continues (at_rest deltas s) before s now (IsUnit h)
+idle_made deltas s before now h rest may e =
+    ends (at_rest deltas s) s s before before now h (entry h Idle ∷ []) (begins deltas s before h) (allowed_outside (at_rest deltas s) h Idle rest may, tt) (rw rest refl) (refl, refl) e
 
 pub done_held : (s : FlatState) (h : ℕ) (held : Option ℕ) (next : ArchState) → IsDone s h held next → OfHart s h (λ hart. held ≡ held_by s h (access_in hart))
 done_held s h held next ready = let w = some_and (slice_get s.harts h) _ ready in and_some (slice_get s.harts h) _ w.0 w.1 w.2.2
@@ -195,18 +194,10 @@ done_held s h held next ready = let w = some_and (slice_get s.harts h) _ ready i
 pub done_next : (s : FlatState) (h : ℕ) (held : Option ℕ) (next : ArchState) → IsDone s h held next → OfHart s h (λ hart. next ≡ arch_after hart)
 done_next s h held next ready = let w = some_and (slice_get s.harts h) _ ready in and_some (slice_get s.harts h) _ w.0 w.1 w.2.3
 
--- a hart without an access holds no page of it
-pub none_held : (s : FlatState) (h : ℕ) → OfHart s h (λ hart. access_in hart ≡ None) → OfHart s h (λ hart. None ≡ held_by s h (access_in hart))
-none_held s h none = let w = some_and (slice_get s.harts h) _ none in and_some (slice_get s.harts h) _ w.0 w.1 (rw w.2 refl)
-
 -- in a try behind a fetch, and at rest behind what ends it
 pub fetch_acts : (s new : FlatState) (h pc word : ℕ) → IsActing s h None → new ≡ flat_after [] s (Hart h) (Fetch pc word) → IsActing new h None
 fetch_acts s new h pc word t n =
     acts_on s new h None (fetched_with word) t (ap (λ (f : FlatState). f.inside) n ∙ t.no_one) (ap (λ (f : FlatState). f.harts) n) (ap (λ (f : FlatState). f.pages) n) (ap (λ (f : FlatState). f.met) n)
-
--- what a hart gives back at its end: nothing, where it has no access
-gives_nothing : (s : FlatState) (h : ℕ) (hart : HartState) → slice_get s.harts h ≡ Some hart → access_in hart ≡ None → give_back s h ≡ s
-gives_nothing s h hart is none = rw is (rw none refl)
 
 -- the page that it holds
 given_free : (held : ℕ) (last : ℕ) (put : Bool) (pages : List PageState) → AllByRecursion (IsOwned (Some held)) pages → AllByRecursion IsSettled (changed_by (λ page. page.number) pages held (given_back last put))
@@ -268,35 +259,3 @@ end_harts s new h pc held next t ready n =
 pub call_rests : (s new : FlatState) (h : ℕ) (g : HartState → HartState) → IsActing s h None → new ≡ leave_hart (flat_after [] s (Hart h) Enter) h g → ((hart : HartState) → (g hart).fetched ≡ None) → IsResting new
 call_rests s new h g t n none =
     rests s new h g t (ap (λ (f : FlatState). f.inside) n ∙ left h) (ap (λ (f : FlatState). f.harts) n) (ap (λ (f : FlatState). f.pages) n) (ap (λ (f : FlatState). f.met) n) none
-
-pub call_rests_of_two : (s new : FlatState) (h : ℕ) (f g : HartState → HartState) → IsActing s h None → new ≡ leave_hart (change_hart (flat_after [] s (Hart h) Enter) h f) h g → ((hart : HartState) → (g hart).fetched ≡ None) → IsResting new
-call_rests_of_two s new h f g t n none =
-    let mid : FlatState = change_hart s h f in
-    rests mid new h g (acts_on s mid h None f t t.no_one refl refl refl) (ap (λ (f : FlatState). f.inside) n ∙ left h) (ap (λ (f : FlatState). f.harts) n) (ap (λ (f : FlatState). f.pages) n) (ap (λ (f : FlatState). f.met) n) none
-
-pub call_harts_of_two : (s new : FlatState) (h : ℕ) (f g : HartState → HartState) → new ≡ leave_hart (change_hart (flat_after [] s (Hart h) Enter) h f) h g → length new.harts ≡ length s.harts
-call_harts_of_two s new h f g n = ap (λ (x : FlatState). length x.harts) n ∙ length_changed g (changed_at s.harts h f) h ∙ length_changed f s.harts h
-
--- a hart is alone where it alone changes
-pub alone_on : (s new : FlatState) (h : ℕ) (f : HartState → HartState) → IsAlone s h → new ≡ change_hart (flat_after [] s (Hart h) Enter) h f → IsAlone new h
-alone_on s new h f alone n = rw n (but_changed (λ (hart : HartState). hart.fetched ≡ None) f h s.harts alone)
-
--- what was changed is there
-get_changed : (xs : List HartState) (i : ℕ) (f : HartState → HartState) (x : HartState) → slice_get xs i ≡ Some x → slice_get (changed_at xs i f) i ≡ Some (f x)
-get_changed [] i f x e = absurd (cc)
-get_changed (y ∷ ys) zero f x e = let same : y ≡ x = cc in ap (λ (z : HartState). Some (f z)) same
-get_changed (y ∷ ys) (suc i) f x e = rw (changed_next y ys i f) (get_changed ys i f x e)
-
--- the end of a call gives nothing back
-pub call_end : (s : FlatState) (h pc : ℕ) → OfHart s h (λ hart. access_in hart ≡ None) → flat_after [] s (Hart h) (End pc) ≡ leave_hart s h ended
-call_end s h pc none = let w = some_and (slice_get s.harts h) _ none in ap (λ (f : FlatState). leave_hart f h ended) (gives_nothing s h w.0 w.1 w.2)
-
-pub call_end_of_two : (s : FlatState) (h pc answer : ℕ) → OfHart s h (λ hart. access_in hart ≡ None) → flat_after [] (change_hart s h (answered answer)) (Hart h) (End pc) ≡ leave_hart (change_hart s h (answered answer)) h ended
-call_end_of_two s h pc answer none =
-    let w = some_and (slice_get s.harts h) _ none in
-    ap (λ (f : FlatState). leave_hart f h ended) (gives_nothing (change_hart s h (answered answer)) h (answered answer w.0) (get_changed s.harts h (answered answer) w.0 w.1) w.2)
-
-pub none_held_of_two : (s : FlatState) (h answer : ℕ) → OfHart s h (λ hart. access_in hart ≡ None) → OfHart (change_hart s h (answered answer)) h (λ hart. None ≡ held_by (change_hart s h (answered answer)) h (access_in hart))
-none_held_of_two s h answer none =
-    let w = some_and (slice_get s.harts h) _ none in
-    and_some (slice_get (changed_at s.harts h (answered answer)) h) _ (answered answer w.0) (get_changed s.harts h (answered answer) w.0 w.1) (rw w.2 refl)

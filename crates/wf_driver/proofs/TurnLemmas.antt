@@ -17,14 +17,17 @@ use Rattle.wf_flat.specs.declared.event.Entry.{Entry}
 use Rattle.wf_flat.specs.State.{FlatState, HartState}
 use Rattle.wf_flat.specs.Steps.{OfHart}
 use Rattle.wf_effects.specs.Generations.{is_running}
-use Rattle.wf_legal.specs.Legal.{at_rest, end_of}
+use Rattle.wf_legal.specs.Legal.{end_of}
+use Rattle.wf_outside.specs.Images.{DeltaValue}
+use Rattle.wf_service.specs.Resting.{IsResting}
 use Rattle.wf_report.specs.Listings.{ListingValue}
 use Rattle.wf_follow.specs.Places.{Place}
 use Rattle.wf_follow.specs.Units.{IsTurn, IsTurnOf, IsUnitOf, hart_in_turn, lowest_running, number_behind, only}
-use Rattle.wf_follow.specs.Unbuilt.{MeetsUnbuiltAt}
 use Rattle.wf_driver.proofs.StepLemmas.{allowed_outside}
-use Rattle.wf_driver.specs.Machines.{MachineValue, place_of}
-use Rattle.wf_driver.specs.Making.{HasMade, IsReady}
+use Rattle.wf_driver.specs.Machines.{MachineValue, moment_of, place_of}
+use Rattle.wf_driver.specs.Making.{HasMade}
+use Rattle.wf_driver.specs.Keeping.{IsReady}
+use Rattle.wf_driver.proofs.KeepLemmas.{ready_on}
 use Rattle.wf_driver.proofs.PlaceLemmas.{place_behind, shown}
 
 abbrev given : ℕ → Option ℕ
@@ -173,53 +176,57 @@ turned_from a b h turn made =
       entries = made.entries;
       listings = made.listings;
       legal = made.legal;
-      built = made.built;
       reached = made.reached;
       fits = subst (λ (o : Option ℕ). IsTurnOf o (place_of a) made.made (record (place_of b) { last = Some h })) (sym turn)
           (made.fits.0, ap (λ (p : Place). record p { last = Some h }) made.fits.1);
     }
 
 -- an idle of hart 0, where no hart runs
-idled_from : (a : MachineValue) → IsReady a.flat → hart_in_turn (place_of a) ≡ None → HasMade IsTurn a (record a { entries = a.entries ++ only (Hart 0) Idle })
-idled_from a ready turn =
+idled_from : (a : MachineValue) → IsResting a.flat → 1 ≤ length a.flat.harts → hart_in_turn (place_of a) ≡ None → HasMade IsTurn a (record a { entries = a.entries ++ only (Hart 0) Idle })
+idled_from a rests some turn =
     let idle : List Entry = only (Hart 0) Idle in
     let next : MachineValue = record a { entries = a.entries ++ idle } in
-    let inside : a.flat.inside ≡ None = ready.rests.no_one in
-    let first = first_stopped a.flat ready.some (neither (lowest_running (number_behind a.last) 0 a.flat.harts) (lowest_running 0 0 a.flat.harts) turn) in
-    let reached : at_rest [] a.flat ≡ end_of (at_rest [] a.flat) idle = rw inside refl in
+    let inside : a.flat.inside ≡ None = rests.no_one in
+    let first = first_stopped a.flat some (neither (lowest_running (number_behind a.last) 0 a.flat.harts) (lowest_running 0 0 a.flat.harts) turn) in
+    let reached : moment_of a ≡ end_of (moment_of a) idle = rw inside refl in
     record {
       made = idle;
       entries = refl;
       listings = refl;
-      legal = (allowed_outside (at_rest [] a.flat) 0 Idle inside first, tt);
-      built = (tt, tt);
+      legal = (allowed_outside (moment_of a) 0 Idle inside first, tt);
       reached = reached;
       fits = subst (λ (o : Option ℕ). IsTurnOf o (place_of a) idle (place_of next)) (sym turn) (refl, place_behind a next 0 idle refl refl reached refl);
     }
 
 -- a turn of a hart leaves a machine with these parts
-pub turned : (a b : MachineValue) (flat : FlatState) (entries : List Entry) (listings : List ListingValue) (last : Option ℕ) (h : ℕ) → hart_in_turn (place_of a) ≡ Some h → HasMade (IsUnitOf h) a b
-    → shown flat entries listings last ≡ b → HasMade IsTurn a (shown flat entries listings (Some h))
-turned a b flat entries listings last h turn made view =
+pub turned : (a b : MachineValue) (deltas : List DeltaValue) (flat : FlatState) (entries : List Entry) (listings : List ListingValue) (last : Option ℕ) (h : ℕ) → hart_in_turn (place_of a) ≡ Some h → HasMade (IsUnitOf h) a b
+    → shown deltas flat entries listings last ≡ b → HasMade IsTurn a (shown deltas flat entries listings (Some h))
+turned a b deltas flat entries listings last h turn made view =
     subst (λ (m : MachineValue). HasMade IsTurn a (record m { last = Some h })) (sym view) (turned_from a b h turn made)
 
 -- a turn where no hart runs
-pub idled : (flat : FlatState) (entries later : List Entry) (listings : List ListingValue) (last : Option ℕ) (m : MachineValue) → shown flat entries listings last ≡ m
-    → IsReady flat → hart_in_turn (place_of m) ≡ None → later ≡ entries ++ only (Hart 0) Idle → HasMade IsTurn m (shown flat later listings last)
-idled flat entries later listings last m view ready turn is =
-    let old : MachineValue = shown flat entries listings last in
+pub idled : (deltas : List DeltaValue) (flat : FlatState) (entries later : List Entry) (listings : List ListingValue) (last : Option ℕ) (m : MachineValue) → shown deltas flat entries listings last ≡ m
+    → IsResting flat → 1 ≤ length flat.harts → hart_in_turn (place_of m) ≡ None → later ≡ entries ++ only (Hart 0) Idle → HasMade IsTurn m (shown deltas flat later listings last)
+idled deltas flat entries later listings last m view rests some turn is =
+    let old : MachineValue = shown deltas flat entries listings last in
     let turn_of_old : hart_in_turn (place_of old) ≡ None = ap (λ (x : MachineValue). hart_in_turn (place_of x)) view ∙ turn in
-    subst (λ (x : MachineValue). HasMade IsTurn x (shown flat later listings last)) view
-    (subst (λ (es : List Entry). HasMade IsTurn old (shown flat es listings last)) (sym is) (idled_from old ready turn_of_old))
+    subst (λ (x : MachineValue). HasMade IsTurn x (shown deltas flat later listings last)) view
+    (subst (λ (es : List Entry). HasMade IsTurn old (shown deltas flat es listings last)) (sym is) (idled_from old rests some turn_of_old))
 
--- the hart in turn meets what is not built
-pub turn_meets : (m : MachineValue) (pc h : ℕ) → hart_in_turn (place_of m) ≡ Some h → MeetsUnbuiltAt (at_rest [] m.flat) pc h → IsSomeAnd (hart_in_turn (place_of m)) (MeetsUnbuiltAt (at_rest [] m.flat) pc)
-turn_meets m pc h turn met = subst (λ (o : Option ℕ). IsSomeAnd o (MeetsUnbuiltAt (at_rest [] m.flat) pc)) (sym turn) met
+-- what the machine keeps, behind such a turn
+pub idle_ready : (deltas : List DeltaValue) (flat : FlatState) (entries later : List Entry) (listings : List ListingValue) (last : Option ℕ) (m : MachineValue) → shown deltas flat entries listings last ≡ m
+    → IsReady deltas flat entries → hart_in_turn (place_of m) ≡ None → later ≡ entries ++ only (Hart 0) Idle → IsReady deltas flat later
+idle_ready deltas flat entries later listings last m view ready turn is =
+    let old : MachineValue = shown deltas flat entries listings last in
+    let turn_of_old : hart_in_turn (place_of old) ≡ None = ap (λ (x : MachineValue). hart_in_turn (place_of x)) view ∙ turn in
+    let made = idled_from old ready.rests ready.some turn_of_old in
+    subst (IsReady deltas flat) (sym is)
+    (ready_on deltas flat flat entries (entries ++ only (Hart 0) Idle) (λ es. Unit {0}) ready (record { made = made.made; appended = made.entries; legal = made.legal; reached = made.reached; fits = tt }) ready.rests refl)
 
 -- whose turn it is in a machine, whose parts are these
-pub next_found : (flat : FlatState) (entries : List Entry) (listings : List ListingValue) (last : Option ℕ) (m : MachineValue) (above first : Option ℕ) (number : ℕ) → shown flat entries listings last ≡ m
+pub next_found : (deltas : List DeltaValue) (flat : FlatState) (entries : List Entry) (listings : List ListingValue) (last : Option ℕ) (m : MachineValue) (above first : Option ℕ) (number : ℕ) → shown deltas flat entries listings last ≡ m
     → number ≡ number_behind last → above ≡ lowest_running number 0 flat.harts → first ≡ lowest_running 0 0 flat.harts → option_or above first ≡ hart_in_turn (place_of m)
-next_found flat entries listings last m above first number view n a f =
+next_found deltas flat entries listings last m above first number view n a f =
     ap (λ (x : Option ℕ). option_or x first) (a ∙ ap (λ (k : ℕ). lowest_running k 0 flat.harts) n)
     ∙ ap (λ (x : Option ℕ). option_or (lowest_running (number_behind last) 0 flat.harts) x) f
     ∙ ap (λ (x : MachineValue). hart_in_turn (place_of x)) view

@@ -1,3 +1,4 @@
 pub mod Stepping
 pub mod Machines
 pub mod Making
+pub mod Keeping

@@ -1,9 +1,8 @@
 -- What the machine keeps around a unit of a hart, and how far a unit has come.
-use Rattle.std.specs.Prelude.{◌≡◌, ◌≢◌, ◌⊎◌, ◌<◌, ◌++◌, ◌%◌, ℕ, List, [], ◌∷◌, Bool, true, false, not, if◌then◌else◌, Option, Some, None, IfSome, IsSomeAnd, map, nat_lt, slice_index}
+use Rattle.std.specs.Prelude.{◌≡◌, ◌≢◌, ◌⊎◌, ℕ, List, [], ◌∷◌, Bool, true, false, not, if◌then◌else◌, Option, Some, None, IfSome, IsSomeAnd, map, nat_lt}
 use Rattle.std.specs.List.{AllByRecursion}
 use Rattle.rv_inst.specs.declared.causes.TheConstants.{ILLEGAL_INSTRUCTION}
 use Rattle.rv_inst.specs.declared.inst.Inst.{Inst}
-use Rattle.rv_inst.specs.declared.inst.Inst.TheVariants.{Ecall}
 use Rattle.rv_inst.specs.declared.want.Want.{Want}
 use Rattle.rv_inst.specs.declared.want.Want.TheVariants.{Nothing}
 use Rattle.rv_inst.specs.declared.want.Want.TheVariants as want
@@ -11,25 +10,24 @@ use Rattle.rv_inst.specs.Arch.{ArchState}
 use Rattle.rv_inst.specs.Decoding.{inst_of}
 use Rattle.rv_inst.specs.Spelling.{IsSpelled}
 use Rattle.rv_inst.specs.Meanings.{want_of, meaning_of}
-use Rattle.wf_flat.specs.declared.event.Actor.TheVariants.{Hart}
 use Rattle.wf_flat.specs.declared.state.Stage.TheVariants.{Here}
 use Rattle.wf_flat.specs.declared.state.Life.TheVariants.{Running}
+use Rattle.wf_outside.specs.Images.{DeltaValue}
 use Rattle.wf_outside.specs.Lists.{IsRising}
 use Rattle.wf_outside.specs.Pages.{page_of}
 use Rattle.wf_flat.specs.Memory.{page_in, data_in, word_at, has_met, with_met, met_key}
 use Rattle.wf_flat.specs.Ordered.{IsOrdered}
 use Rattle.wf_flat.specs.Serving.{held_by, IsAlone, IsPlace}
 use Rattle.wf_flat.specs.Accesses.{Access}
-use Rattle.wf_flat.specs.Steps.{OfHart, generation_text, inst_in, want_in, access_in, is_lost, takes_for, is_done, arch_after}
+use Rattle.wf_flat.specs.Steps.{Called, OfHart, ask_of, generation_text, inst_in, want_in, access_in, is_lost, takes_for, is_done, arch_after}
 use Rattle.wf_flat.specs.declared.event.Event.TheVariants.{Sync}
 use Rattle.wf_verdict.specs.declared.work.Todo.{Todo}
 use Rattle.wf_verdict.specs.declared.work.Todo.TheVariants.{Exactly}
 use Rattle.wf_legal.specs.Calls.{todo_by}
 use Rattle.wf_flat.specs.declared.event.Entry.{Entry}
-use Rattle.wf_flat.specs.State.{FlatState, HartState, PageState}
-use Rattle.wf_legal.specs.Legal.{IsLegal, end_of, at_rest}
-use Rattle.wf_follow.specs.Built.{IsBuilt}
-use Rattle.wf_flat.specs.Follows.{ends_unit}
+use Rattle.wf_flat.specs.State.{FlatState, HartState}
+use Rattle.wf_legal.specs.Legal.{Moment, at_rest}
+use Rattle.wf_service.specs.Adding.{Adds, IsOpen}
 use Rattle.wf_driver.specs.declared.finding.Found.{Found}
 use Rattle.wf_driver.specs.declared.stepping.Start.{Start}
 use Rattle.wf_driver.specs.declared.stepping.Start.TheVariants.{Stopped, Word, Fault}
@@ -37,18 +35,7 @@ use Rattle.wf_driver.specs.declared.actions.Operand.{Operand}
 use Rattle.wf_driver.specs.declared.actions.Write.{Write}
 use Rattle.wf_driver.specs.declared.actions.Write.TheVariants.{Put, PutIf, Swap}
 use Rattle.wf_driver.specs.declared.actions.Action.{Action}
-use Rattle.wf_driver.specs.declared.actions.Action.TheVariants.{Run, Load, Store, Trap, Exit, Out, OwnGeneration, Refuse}
-
--- a page that is Here and that nobody holds
-abbrev pub IsSettled : PageState → Type 0
-IsSettled page = (page.stage ≡ Here) × (page.holder ≡ None)
-
--- nobody is inside, no hart is in a try, and no page is held or leaving
-pub record IsResting (s : FlatState) : Type 0 where
-  pub no_one : s.inside ≡ None
-  pub no_try : AllByRecursion (λ hart. hart.fetched ≡ None) s.harts
-  pub ordered : IsOrdered s
-  pub free : AllByRecursion IsSettled s.pages
+use Rattle.wf_driver.specs.declared.actions.Action.TheVariants.{Run, Load, Store, Trap}
 
 -- nobody is inside, no hart but this one is in a try, no page is leaving, and none is held but this
 -- one, if any
@@ -104,8 +91,8 @@ IsDone s h held next =
 
 -- what an access finds in the data: a page, its right, its mapping and count of writes, and whether
 -- that is the last
-abbrev pub IsFound : FlatState → ℕ → Found → Type 0
-IsFound s number found =
+abbrev pub IsFoundPage : FlatState → ℕ → Found → Type 0
+IsFoundPage s number found =
     IsSomeAnd (data_in s.pages number)
     (λ page. (found.page ≡ page.number) × (found.write ≡ page.write) × (found.birth ≡ page.birth)
     × (found.writes ≡ page.writes)
@@ -115,7 +102,7 @@ IsFound s number found =
 abbrev pub IsPlaceOf : FlatState → ℕ → ℕ → Option Found → Type 0
 IsPlaceOf s h va None = data_in s.pages (page_of va) ≡ None
 IsPlaceOf s h va (Some found) =
-    IsFound s (page_of va) found
+    IsFoundPage s (page_of va) found
     × OfHart s h (λ hart. found.met ≡ has_met s.met hart.generation found.page)
 
 -- what generations will have met where an access is to a page that the hart's own has not met, and
@@ -138,9 +125,11 @@ IsNear s h va page =
     (λ hart. (page_in (generation_text s hart.generation) (page_of va) ≡ None)
     × (has_met s.met hart.generation page ≡ true))
 
--- a hart that runs asks for what takes these events
+-- a hart that runs asks, and not by a call, for what takes these events, whatever the patches are
 abbrev pub IsToDo : FlatState → ℕ → HartState → List Todo → Type 0
-IsToDo s h hart todo = (hart.life ≡ Running) × (todo_by [] s h hart ≡ todo)
+IsToDo s h hart todo =
+    (hart.life ≡ Running) × (ask_of s h hart ≢ Some Called)
+    × ((deltas : List DeltaValue) → todo_by deltas s h hart ≡ todo)
 
 -- a hart's generation has met a page; or else it is to meet it, and this is what will be met then
 abbrev pub IsMeeting : FlatState → ℕ → ℕ → Option (List (ℕ × ℕ)) → Type 0
@@ -165,12 +154,12 @@ WillWrite s h operand write will =
     (λ page. will
     ≡ takes_for (Some (store_want operand write)) s hart (store_at operand) page))
 
--- what generations will have met where an action makes a hart's own meet a page
+-- what generations will have met where an action makes a hart's own meet a page; else nothing
 abbrev pub IsToMeet : FlatState → ℕ → Action → Option (List (ℕ × ℕ)) → Type 0
 IsToMeet s h (Load operand reserving) met = IsPageToSync s h operand.va met
 IsToMeet s h (Store operand write) met =
     WillReach s h operand write → IsPageToSync s h operand.va met
-IsToMeet s h action met = Unit {0}
+IsToMeet s h action met = met ≡ None
 
 -- pages, texts, sizes and harts are the same
 pub record IsSame (old new : FlatState) : Type 0 where
@@ -186,13 +175,13 @@ IsAt s hart pc word =
     × (word_at (generation_text s hart.generation) pc ≡ Some word)
 
 -- what a hart finds where it is to begin a try
-abbrev pub IsStart : FlatState → ℕ → Start → Type 0
-IsStart s h Stopped = OfHart s h (λ hart. hart.life ≢ Running)
-IsStart s h (Word arch word) =
+abbrev pub IsTryStart : FlatState → ℕ → Start → Type 0
+IsTryStart s h Stopped = OfHart s h (λ hart. hart.life ≢ Running)
+IsTryStart s h (Word arch word) =
     OfHart s h
     (λ hart. (hart.life ≡ Running) × (hart.arch ≡ arch)
     × (word_at (generation_text s hart.generation) arch.pc ≡ Some word))
-IsStart s h (Fault pc) =
+IsTryStart s h (Fault pc) =
     OfHart s h
     (λ hart. (hart.life ≡ Running) × (hart.arch.pc ≡ pc)
     × (word_at (generation_text s hart.generation) pc ≡ None))
@@ -224,36 +213,13 @@ IsAction arch word (Load operand reserving) =
 IsAction arch word (Store operand write) =
     (inst_of word ≡ Some operand.inst) × IsStore arch operand write
 IsAction arch word (Trap cause value) = IsTrapOf arch word (inst_of word) cause value
-IsAction arch word (Exit code) =
-    (inst_of word ≡ Some Ecall) × (slice_index arch.x 17 ≡ 0) × (code ≡ slice_index arch.x 10)
-IsAction arch word (Out byte) =
-    (inst_of word ≡ Some Ecall) × (slice_index arch.x 17 ≡ 1) × (byte ≡ slice_index arch.x 10 % 256)
-IsAction arch word OwnGeneration = (inst_of word ≡ Some Ecall) × (slice_index arch.x 17 ≡ 4)
-IsAction arch word (Refuse number) =
-    (inst_of word ≡ Some Ecall) × (number ≡ slice_index arch.x 17) × (8 < number)
 
--- entries of one hart, none of which ends a unit
-abbrev pub IsOpen : ℕ → List Entry → Type 0
-IsOpen h entries =
-    AllByRecursion (λ entry. (entry.actor ≡ Hart h) × (ends_unit entry.event ≡ false)) entries
+-- A unit of a hart is open behind the entries so far, from this moment, and has come to this state.
+-- What it made is legal.
+abbrev pub HasOpenUnit : Moment → List Entry → FlatState → List Entry → ℕ → Type 0
+HasOpenUnit m before new now h = Adds m before (at_rest m.deltas new) now (IsOpen h)
 
--- A unit of a hart has begun behind the entries so far, from this state, and has come to this one.
--- What it made is legal and built.
-pub record HasBegun (old : FlatState) (before : List Entry) (new : FlatState) (now : List Entry)
-    (h : ℕ) : Type 0 where
-  pub made : List Entry
-  pub appended : now ≡ before ++ made
-  pub legal : IsLegal (at_rest [] old) made
-  pub built : IsBuilt (at_rest [] old) made
-  pub reached : at_rest [] new ≡ end_of (at_rest [] old) made
-  pub open_yet : IsOpen h made
-
--- legal entries with P, all of them built, came behind those so far, and the state went along
-pub record Continues (old : FlatState) (before : List Entry) (new : FlatState) (now : List Entry)
-    (P : List Entry → Type 0) : Type 0 where
-  pub made : List Entry
-  pub appended : now ≡ before ++ made
-  pub legal : IsLegal (at_rest [] old) made
-  pub built : IsBuilt (at_rest [] old) made
-  pub reached : at_rest [] new ≡ end_of (at_rest [] old) made
-  pub fits : P made
+-- legal entries with P came behind those so far, and the state went along
+abbrev pub Continues : Moment → List Entry → FlatState → List Entry → (List Entry → Type 0)
+    → Type 0
+Continues m before new now P = Adds m before (at_rest m.deltas new) now P

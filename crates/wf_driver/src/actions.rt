@@ -1,12 +1,9 @@
 //! What a hart is to do with a word.
-ghost use Rattle.std.specs.Prelude.{◌≡◌, ◌≢◌, IfSome, None, Some, ℕ, false, slice_index};
+ghost use Rattle.std.specs.Prelude.{◌≡◌, ◌≢◌, IfSome, None, Some, ℕ};
 ghost use Rattle.rv_inst.specs.declared.causes.TheConstants.{ILLEGAL_INSTRUCTION};
 ghost use Rattle.rv_inst.specs.Decoding.{inst_of};
 ghost use Rattle.rv_inst.specs.Spelling.{IsSpelled};
 ghost use Rattle.rv_inst.specs.Meanings.{want_of, meaning_of};
-ghost use Rattle.wf_follow.specs.Built as built;
-ghost use Rattle.wf_flat.specs.State.{HartState};
-ghost use Rattle.wf_follow.specs.Built.{IsUnbuiltInst};
 ghost use Rattle.wf_driver.specs.Stepping.{IsAction};
 
 use rv_alu::AmoOp;
@@ -36,7 +33,7 @@ pub enum Write {
     Swap { op: AmoOp, value: u64 },
 }
 
-/// What a hart does with the word that it fetched.
+/// What a hart does with the word that it fetched, which is no call.
 #[derive(Clone, Copy, Debug, PartialEq, Eq)]
 pub enum Action {
     /// The instruction wants nothing, and leaves these registers.
@@ -47,22 +44,13 @@ pub enum Action {
     Store { operand: Operand, write: Write },
     /// It stops with a trap.
     Trap { cause: u8, value: u64 },
-    /// It exits.
-    Exit { code: u64 },
-    /// It puts a byte.
-    Out { byte: u8 },
-    /// It asks for its own generation.
-    OwnGeneration,
-    /// It makes a call of this number, which there is not.
-    Refuse { number: u64 },
 }
 
-/// What a hart with these registers does with a word; `None` where it is not built.
+/// What a hart with these registers does with a word; `None` where it makes a call.
 #[tactic(auto, using(crate::proofs::ActionLemmas::places))]
 pub fn action_of(arch: &Arch, word: u32) -> Option<Action>
     ensures action { IfSome result (λ action. IsAction arch.now word action) }
-    ensures none { (hart : HartState) → hart.arch ≡ arch.now → result ≡ None
-        → IsUnbuiltInst hart (inst_of word) }
+    ensures none { result ≡ None → inst_of word ≡ Some Inst.Ecall }
 {
     let Some(inst) = decode(word) else {
         return Some(illegal(word));
@@ -72,7 +60,7 @@ pub fn action_of(arch: &Arch, word: u32) -> Option<Action>
             next: arch_after(arch, inst),
         }),
         Want::Trap { cause, value } => Some(Action::Trap { cause, value }),
-        Want::Call => call_of(arch),
+        Want::Call => None,
         Want::Look { va, width } => Some(Action::Load {
             operand: Operand { inst, va, width },
             reserving: false,
@@ -130,22 +118,4 @@ pub fn finished(arch: &Arch, inst: Inst, got: u64) -> Arch
     let mut next = *arch;
     finish(&mut next, inst, got);
     next
-}
-
-// What a call is to do, by its number in a7.
-fn call_of(arch: &Arch) -> Option<Action>
-    ensures action { (word : ℕ) → inst_of word ≡ Some Inst.Ecall
-        → IfSome result (λ action. IsAction arch.now word action) }
-    ensures none { result ≡ None → built.is_built_call (slice_index arch.now.x 17) ≡ false }
-{
-    let first = arch.x[10];
-    match arch.x[17] {
-        0 => Some(Action::Exit { code: first }),
-        1 => Some(Action::Out {
-            byte: (first % 256) as u8,
-        }),
-        4 => Some(Action::OwnGeneration),
-        number if number > 8 => Some(Action::Refuse { number }),
-        _ => None,
-    }
 }

@@ -1,6 +1,6 @@
 //! What an access finds: text, and pages of data.
-ghost use Rattle.std.specs.Prelude.{◌≡◌, ◌<◌, ◌%◌, None, Some, IfOk, IfSome, length};
-ghost use Rattle.std.specs.Option.{option_map};
+ghost use Rattle.std.specs.Prelude.{◌≡◌, ◌<◌, ◌%◌, None, Some, IfOk, length};
+ghost use Rattle.std.specs.Option.{option_map, option_map_or};
 ghost use Rattle.wf_outside.specs.declared.sizes.TheConstants.{PAGE_SIZE};
 ghost use Rattle.wf_outside.specs.Pages.{page_of};
 ghost use Rattle.wf_flat.specs.Memory.{page_in, data_in, number_in};
@@ -74,8 +74,9 @@ pub fn found_at(flat: &Flat, hart: u8, va: u64) -> Option<Found>
 pub fn data_value(flat: &Flat, va: u64, width: u8) -> u64
     requires place { IsPlace va width }
     requires ordered { IsOrdered flat.now }
-    ensures { IfSome (data_in flat.now.pages (page_of va))
-        (λ page. result ≡ number_in page.words (va % PAGE_SIZE) width) }
+    ensures { result
+        ≡ option_map_or (λ page. number_in page.words (va % PAGE_SIZE) width)
+        (data_in flat.now.pages (page_of va)) 0 }
 {
     match flat.data_page(va / PAGE_SIZE) {
         Some(page) => page.number_at(va % PAGE_SIZE, width),

@@ -1,15 +1,14 @@
-//! The machine that runs scripts, and one unit of a hart where no other hart is in a try: a whole
-//! instruction or call, a trap, an exit, or an idle.
+//! The machine that runs scripts: whole units of harts, where no other hart is in a try, each an
+//! instruction, a call, a trap or an idle; and whole calls of the kernel's own actor.
 #![tactic(auto)]
 
 mod actions;
-mod fault;
 mod finding;
 mod loading;
 mod machine;
 mod meeting;
 mod stepping;
 mod storing;
+mod wholeness;
 
-pub use fault::ObeyFault;
 pub use machine::Machine;

@@ -5,7 +5,7 @@ ghost use Rattle.wf_flat.specs.declared.event.Actor.TheVariants.{Hart};
 ghost use Rattle.wf_flat.specs.declared.event.Event.TheVariants as events;
 ghost use Rattle.wf_flat.specs.declared.event.Entry.{Entry as FlatEntry};
 ghost use Rattle.wf_flat.specs.declared.state.Life.TheVariants.{Running};
-ghost use Rattle.wf_flat.specs.State.{FlatState};
+ghost use Rattle.wf_legal.specs.Legal.{Moment};
 ghost use Rattle.wf_outside.specs.Pages.{page_of};
 ghost use Rattle.wf_flat.specs.Serving.{held_by};
 ghost use Rattle.wf_flat.specs.Ordered.{IsOrdered};
@@ -13,15 +13,17 @@ ghost use Rattle.wf_flat.specs.Steps.{OfHart, MayLook, want_in};
 ghost use Rattle.wf_legal.specs.Events.{flat_after};
 ghost use Rattle.wf_flat.specs.Changes.{reserves};
 ghost use Rattle.wf_flat.specs.Follows.{IsUnit};
-ghost use Rattle.wf_driver.specs.Stepping.{IsResting, IsActing, InAccess, IsLoad, IsFound, IsNear, IsPageToSync, HasBegun, Continues, load_at};
+ghost use Rattle.wf_service.specs.Resting.{IsResting};
+ghost use Rattle.wf_driver.specs.Stepping.{IsActing, InAccess, IsLoad, IsFoundPage, IsNear, IsPageToSync, HasOpenUnit, Continues, load_at};
 
 use crate::actions::{Operand, finished};
 use crate::finding::{Found, data_value, found_at, text_value};
 use crate::meeting::{meet, take};
-use crate::stepping::{append, end, trap};
+use crate::stepping::{end, trap};
 use rv_inst::Arch;
 use rv_inst::causes::LOAD_PAGE_FAULT;
-use wf_flat::{Entry, Event, Flat};
+use wf_flat::{Actor, Entry, Event, Flat};
+use wf_service::append;
 
 // A hart looks at bytes, and reserves them where it is in a load-reserved.
 fn look(flat: &mut Flat, hart: u8, operand: Operand, reserving: bool, value: u64)
@@ -56,16 +58,16 @@ fn read(
         (λ state. (state.life ≡ Running)
         × MayLook flat.old hart state operand.va operand.width value) }
     requires held { held ≡ held_by flat.old hart (Some (load_at operand)) }
-    ensures made { (s : FlatState) (before : List FlatEntry)
-        → HasBegun s before flat.old journal.old.items hart
-        → Continues s before flat.new journal.new.items (IsUnit hart) }
+    ensures made { (m : Moment) (before : List FlatEntry)
+        → HasOpenUnit m before flat.old journal.old.items hart
+        → Continues m before flat.new journal.new.items (IsUnit hart) }
     ensures rests { IsResting flat.new }
     ensures harts { length flat.new.harts ≡ length flat.old.harts }
 {
     look(flat, hart, operand, reserving, value);
     append(
         journal,
-        hart,
+        Actor::Hart(hart),
         Event::Look {
             va: operand.va,
             width: operand.width,
@@ -96,11 +98,11 @@ fn read_page(
     requires acts { IsActing flat.old hart None }
     requires load { IsLoad arch.now operand reserving }
     requires ready { InAccess flat.old hart arch.now operand.inst }
-    requires found { IsFound flat.old (page_of operand.va) found }
+    requires found { IsFoundPage flat.old (page_of operand.va) found }
     requires near { IsNear flat.old hart operand.va found.page }
-    ensures made { (s : FlatState) (before : List FlatEntry)
-        → HasBegun s before flat.old journal.old.items hart
-        → Continues s before flat.new journal.new.items (IsUnit hart) }
+    ensures made { (m : Moment) (before : List FlatEntry)
+        → HasOpenUnit m before flat.old journal.old.items hart
+        → Continues m before flat.new journal.new.items (IsUnit hart) }
     ensures rests { IsResting flat.new }
     ensures harts { length flat.new.harts ≡ length flat.old.harts }
 {
@@ -138,9 +140,9 @@ pub fn load(
     requires load { IsLoad arch.now operand reserving }
     requires ready { InAccess flat.old hart arch.now operand.inst }
     requires met { IsPageToSync flat.old hart operand.va (option_map (λ v. v.items) met) }
-    ensures made { (s : FlatState) (before : List FlatEntry)
-        → HasBegun s before flat.old journal.old.items hart
-        → Continues s before flat.new journal.new.items (IsUnit hart) }
+    ensures made { (m : Moment) (before : List FlatEntry)
+        → HasOpenUnit m before flat.old journal.old.items hart
+        → Continues m before flat.new journal.new.items (IsUnit hart) }
     ensures rests { IsResting flat.new }
     ensures harts { length flat.new.harts ≡ length flat.old.harts }
 {

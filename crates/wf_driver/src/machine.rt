@@ -1,24 +1,31 @@
 //! The machine.
-ghost use Rattle.std.specs.Prelude.{◌≡◌, ◌<◌, ◌≤◌, ◌^◌, [], ℕ, Err, IfOk, IfSome, IsSomeAnd, None, OnErr, OnOk, length, position, true};
+ghost use Rattle.std.specs.Prelude.{◌≡◌, ◌<◌, ◌≤◌, ◌^◌, ℕ, Err, IfOk, IfSome, None, OnErr, OnOk, false, length, position, true};
+ghost use Rattle.std.specs.List.{AllByRecursion};
 ghost use Rattle.wf_flat.specs.Boot.{boot_of};
 ghost use Rattle.wf_flat.specs.Counts.{used_of};
 ghost use Rattle.wf_effects.specs.Generations as generations;
-ghost use Rattle.wf_legal.specs.Legal.{at_rest};
+ghost use Rattle.wf_verdict.specs.Requests.{IsKernelRequest};
+ghost use Rattle.wf_sound.specs.Sound.{IsDelta};
 ghost use Rattle.wf_script.specs.Commands.{IsCommand, IsCount};
 ghost use Rattle.wf_report.specs.Reports.{report_bytes};
+ghost use Rattle.wf_follow.specs.Follows.{IsCallOf};
 ghost use Rattle.wf_follow.specs.Units.{IsTurn, IsUnitOf, hart_in_turn, lowest_running, number_behind};
-ghost use Rattle.wf_follow.specs.Unbuilt.{MeetsUnbuiltAt, is_built_command};
-ghost use Rattle.wf_driver.specs.Machines.{machine_at, place_of, HasObeyed, HasMetUnbuilt, HasStopped, StandsBetween};
+ghost use Rattle.wf_follow.specs.Unbuilt.{is_built_command};
+ghost use Rattle.wf_driver.specs.Machines.{machine_at, place_of, HasObeyed, HasStopped, StandsBetween};
 ghost use Rattle.wf_driver.specs.Making.{HasMade, with_listing};
 
-use crate::fault::ObeyFault;
 use crate::stepping::step;
+use crate::wholeness::{data_is_whole, limits_are_sizes, text_is_whole};
 use std::alloc::Global;
 use std::marker::Model;
+use std::mem;
 use wf_flat::{Actor, BootFault, Entry, Event, Flat, FlatHart, Life, boot};
-use wf_outside::{Image, Limits, Memory, Text};
+use wf_outside::{Delta, Image, Limits, Memory, Text};
 use wf_report::{Listing, mem_listing, regs_listing, report};
+use wf_request::serve_kernel;
 use wf_script::Command;
+use wf_sound::{births_are_few, journals_keep_sound, starts_are_sound};
+use wf_verdict::Request;
 
 // Whether a hart runs.
 fn is_running(life: Life) -> bool
@@ -59,10 +66,18 @@ fn behind(last: Option<u8>) -> usize
     }
 }
 
-/// A machine that runs a script: the state of the flat machine, which is at rest, the journal so
-/// far, the listings at their places, and the hart that `run` stepped last.
+// A journal has fewer entries than 2^62: their bytes are counted.
+fn entries_are_few(entries: &[Entry])
+    ensures { length entries.now < 2 ^ 62 }
+{
+    let _bytes = mem::size_of_val(entries);
+}
+
+/// A machine that runs a script: the patches of the run, the state of the flat machine, which is at
+/// rest, the journal so far, the listings at their places, and the hart that `run` stepped last.
 #[derive(Drop)]
 pub struct Machine {
+    deltas: Vec<Delta>,
     flat: Flat,
     entries: Vec<Entry>,
     listings: Vec<Listing>,
@@ -71,38 +86,53 @@ pub struct Machine {
 
 impl Model for Machine {
     ghost use Rattle.wf_driver.specs.Machines.{MachineValue};
-    ghost use Rattle.wf_driver.specs.Making.{IsReady};
+    ghost use Rattle.wf_driver.specs.Keeping.{IsReady};
 
     ghost Value = { MachineValue };
 
     ghost view = { λ m. record {
+      deltas = m.deltas.items;
       flat = m.flat;
       entries = m.entries.items;
       listings = m.listings.items;
       last = m.last;
     } };
 
-    ghost invariant = { λ m. IsReady m.flat };
+    ghost invariant = { λ m. IsReady m.deltas.items m.flat m.entries.items };
 }
 
 impl Machine {
-    /// So many harts, from 1 to 64, at the start of an image, with an empty journal.
+    /// So many harts, from 1 to 64, at the start of an image, with an empty journal, where `deltas`
+    /// are the patches of the run.
+    ///
+    /// # Errors
+    ///
+    /// `NoFrames` where the start needs more frames than there are. `Memory` where memory runs out.
     pub fn new(
         alloc: Global,
         image: &Image,
         harts: u8,
         limits: Limits,
+        deltas: Vec<Delta>,
     ) -> Result<Machine, BootFault>
         requires some { 1 ≤ harts }
         requires few { harts ≤ 64 }
-        ensures ok { IfOk result (λ machine. machine ≡ machine_at image.now harts limits) }
+        requires patches { AllByRecursion IsDelta deltas.items }
+        requires few_patches { length deltas.items < 2 ^ 32 }
+        ensures ok { IfOk result
+            (λ machine. machine ≡ machine_at deltas.items image.now harts limits) }
         // The frames suffice, or both numbers say that they don't.
         ensures fits { OnOk result (used_of (boot_of image.now harts limits) ≤ limits.frames) }
         ensures no_frames { (need have : ℕ) → result ≡ Err (BootFault.NoFrames need have)
             → (need ≡ used_of (boot_of image.now harts limits)) × (have ≡ limits.frames)
             × (have < need) }
     {
+        starts_are_sound();
+        text_is_whole(&image.text);
+        data_is_whole(&image.pages);
+        limits_are_sizes(limits);
         Ok(Machine {
+            deltas,
             flat: boot(alloc, image, harts, limits)?,
             entries: Vec::new(alloc),
             listings: Vec::new(alloc),
@@ -123,15 +153,17 @@ impl Machine {
     }
 
     // One unit of a hart. After an error nothing has changed.
-    fn make_unit(&mut self, hart: u8) -> Result<(), ObeyFault>
+    fn make_unit(&mut self, alloc: Global, hart: u8) -> Result<(), Memory>
         requires { hart < length self.old.flat.harts }
         ensures ok { OnOk result (HasMade (IsUnitOf hart) self.old self.new) }
         ensures err { OnErr result (self.new ≡ self.old) }
-        ensures unbuilt { (pc : ℕ) → result ≡ Err (ObeyFault.Unbuilt pc)
-            → MeetsUnbuiltAt (at_rest [] self.old.flat) pc hart }
         ensures harts { length self.new.flat.harts ≡ length self.old.flat.harts }
+        ensures deltas { self.new.deltas ≡ self.old.deltas }
     {
-        step(&mut self.flat, &mut self.entries, hart)
+        journals_keep_sound();
+        births_are_few();
+        entries_are_few(&self.entries);
+        step(alloc, &mut self.flat, &self.deltas, &mut self.entries, hart)
     }
 
     // A turn where no hart runs: hart 0 idles. After an error nothing has changed.
@@ -140,6 +172,7 @@ impl Machine {
         ensures ok { OnOk result (HasMade IsTurn self.old self.new) }
         ensures err { OnErr result (self.new ≡ self.old) }
         ensures harts { length self.new.flat.harts ≡ length self.old.flat.harts }
+        ensures deltas { self.new.deltas ≡ self.old.deltas }
     {
         self.entries.push(Entry {
             actor: Actor::Hart(0),
@@ -149,52 +182,110 @@ impl Machine {
     }
 
     // A turn: a unit of the hart whose turn it is. After an error nothing has changed.
-    fn make_turn(&mut self) -> Result<(), ObeyFault>
+    fn make_turn(&mut self, alloc: Global) -> Result<(), Memory>
         ensures ok { OnOk result (HasMade IsTurn self.old self.new) }
         ensures err { OnErr result (self.new ≡ self.old) }
-        ensures unbuilt { (pc : ℕ) → result ≡ Err (ObeyFault.Unbuilt pc)
-            → IsSomeAnd (hart_in_turn (place_of self.old))
-            (MeetsUnbuiltAt (at_rest [] self.old.flat) pc) }
         ensures harts { length self.new.flat.harts ≡ length self.old.flat.harts }
+        ensures deltas { self.new.deltas ≡ self.old.deltas }
     {
         match self.next_hart() {
             Some(hart) => {
-                self.make_unit(hart)?;
+                self.make_unit(alloc, hart)?;
                 self.last = Some(hart);
                 Ok(())
             }
-            None => Ok(self.idle()?),
+            None => self.idle(),
         }
     }
 
     // So many units of a hart.
-    fn step(&mut self, hart: u8, n: u64) -> Result<(), ObeyFault>
+    fn step(&mut self, alloc: Global, hart: u8, n: u64) -> Result<(), Memory>
         requires { hart < length self.old.flat.harts }
         ensures ok { OnOk result (HasObeyed (Command.Step hart n) self.old self.new) }
         ensures err { OnErr result (HasStopped (Command.Step hart n) self.old self.new) }
-        ensures unbuilt { (pc : ℕ) → result ≡ Err (ObeyFault.Unbuilt pc)
-            → MeetsUnbuiltAt (at_rest [] self.new.flat) pc hart }
         ensures harts { length self.new.flat.harts ≡ length self.old.flat.harts }
+        ensures deltas { self.new.deltas ≡ self.old.deltas }
     {
         for _ in 0..n {
-            self.make_unit(hart)?;
+            self.make_unit(alloc, hart)?;
         }
         Ok(())
     }
 
     // So many turns.
-    fn run(&mut self, n: u64) -> Result<(), ObeyFault>
+    fn run(&mut self, alloc: Global, n: u64) -> Result<(), Memory>
         ensures ok { OnOk result (HasObeyed (Command.Run n) self.old self.new) }
         ensures err { OnErr result (HasStopped (Command.Run n) self.old self.new) }
-        ensures unbuilt { (pc : ℕ) → result ≡ Err (ObeyFault.Unbuilt pc)
-            → IsSomeAnd (hart_in_turn (place_of self.new))
-            (MeetsUnbuiltAt (at_rest [] self.new.flat) pc) }
         ensures harts { length self.new.flat.harts ≡ length self.old.flat.harts }
+        ensures deltas { self.new.deltas ≡ self.old.deltas }
     {
         for _ in 0..n {
-            self.make_turn()?;
+            self.make_turn(alloc)?;
         }
         Ok(())
+    }
+
+    // A call of the kernel's own actor. After an error nothing has changed.
+    fn call(&mut self, alloc: Global, request: Request) -> Result<(), Memory>
+        requires { IsKernelRequest self.old.deltas request }
+        ensures ok { OnOk result (HasMade (IsCallOf request) self.old self.new) }
+        ensures err { OnErr result (self.new ≡ self.old) }
+        ensures harts { length self.new.flat.harts ≡ length self.old.flat.harts }
+        ensures deltas { self.new.deltas ≡ self.old.deltas }
+    {
+        journals_keep_sound();
+        births_are_few();
+        entries_are_few(&self.entries);
+        serve_kernel(
+            alloc,
+            &mut self.flat,
+            &self.deltas,
+            &mut self.entries,
+            request,
+        )
+    }
+
+    // A patch comes in. After an error nothing has changed.
+    fn patch(&mut self, alloc: Global, index: u32) -> Result<(), Memory>
+        requires { index < length self.old.deltas }
+        ensures ok { OnOk result (HasObeyed (Command.Patch index false) self.old self.new) }
+        ensures err { OnErr result (self.new ≡ self.old) }
+        ensures harts { length self.new.flat.harts ≡ length self.old.flat.harts }
+        ensures deltas { self.new.deltas ≡ self.old.deltas }
+    {
+        self.call(alloc, Request::Patches { patch: index })
+    }
+
+    // A generation is cloned. After an error nothing has changed.
+    fn create(&mut self, alloc: Global, generation: u32) -> Result<(), Memory>
+        requires { generation ≤ 1023 }
+        ensures ok { OnOk result (HasObeyed (Command.Create generation) self.old self.new) }
+        ensures err { OnErr result (self.new ≡ self.old) }
+        ensures harts { length self.new.flat.harts ≡ length self.old.flat.harts }
+        ensures deltas { self.new.deltas ≡ self.old.deltas }
+    {
+        self.call(
+            alloc,
+            Request::Clones {
+                generation: generation as u64,
+            },
+        )
+    }
+
+    // A generation is deleted. After an error nothing has changed.
+    fn delete(&mut self, alloc: Global, generation: u32) -> Result<(), Memory>
+        requires { generation ≤ 1023 }
+        ensures ok { OnOk result (HasObeyed (Command.Delete generation) self.old self.new) }
+        ensures err { OnErr result (self.new ≡ self.old) }
+        ensures harts { length self.new.flat.harts ≡ length self.old.flat.harts }
+        ensures deltas { self.new.deltas ≡ self.old.deltas }
+    {
+        self.call(
+            alloc,
+            Request::Deletes {
+                generation: generation as u64,
+            },
+        )
     }
 
     // One more listing, of these lines. After an error nothing has changed.
@@ -213,6 +304,7 @@ impl Machine {
         ensures ok { OnOk result (HasObeyed (Command.Regs hart) self.old self.new) }
         ensures err { OnErr result (self.new ≡ self.old) }
         ensures harts { length self.new.flat.harts ≡ length self.old.flat.harts }
+        ensures deltas { self.new.deltas ≡ self.old.deltas }
     {
         let lines = regs_listing(alloc, hart, &self.flat)?;
         self.push_listing(lines)
@@ -225,34 +317,49 @@ impl Machine {
         ensures ok { OnOk result (HasObeyed (Command.Mem va n) self.old self.new) }
         ensures err { OnErr result (self.new ≡ self.old) }
         ensures harts { length self.new.flat.harts ≡ length self.old.flat.harts }
+        ensures deltas { self.new.deltas ≡ self.old.deltas }
     {
         let lines = mem_listing(alloc, va, n, &self.flat)?;
         self.push_listing(lines)
     }
 
-    /// Carries out a command. `Step` and `Run` make whole units, `Regs` and `Mem` a listing. After
-    /// `Unbuilt` the machine stands before the unit that is not built; after `Memory` it stands
-    /// between two units, with what it made before.
-    pub fn obey(&mut self, alloc: Global, command: Command) -> Result<(), ObeyFault>
-        requires there { IsCommand (length self.old.flat.harts) 0 command }
+    /// Carries out a command. `Step` and `Run` make whole units, `Patch`, `Create` and `Delete` a
+    /// whole call of the kernel's own actor, `Regs` and `Mem` a listing.
+    ///
+    /// # Errors
+    ///
+    /// `Memory` where memory runs out; then the machine stands between two units, with what it made
+    /// before.
+    pub fn obey(&mut self, alloc: Global, command: Command) -> Result<(), Memory>
+        requires there { IsCommand (length self.old.flat.harts) (length self.old.deltas) command }
         requires built { is_built_command command ≡ true }
         ensures ok { OnOk result (HasObeyed command self.old self.new) }
-        ensures unbuilt { (pc : ℕ) → result ≡ Err (ObeyFault.Unbuilt pc)
-            → HasMetUnbuilt command self.old self.new pc }
-        ensures memory { result ≡ Err ObeyFault.Memory → StandsBetween command self.old self.new }
+        ensures memory { OnErr result (StandsBetween command self.old self.new) }
         ensures harts { length self.new.flat.harts ≡ length self.old.flat.harts }
+        ensures deltas { self.new.deltas ≡ self.old.deltas }
     {
         match command {
-            Command::Step { hart, n } => self.step(hart, n),
-            Command::Run { n } => self.run(n),
-            Command::Regs { hart } => Ok(self.list_registers(alloc, hart)?),
-            Command::Mem { va, n } => Ok(self.list_words(alloc, va, n)?),
+            Command::Step { hart, n } => self.step(alloc, hart, n),
+            Command::Run { n } => self.run(alloc, n),
+            Command::Regs { hart } => self.list_registers(alloc, hart),
+            Command::Mem { va, n } => self.list_words(alloc, va, n),
+            Command::Patch {
+                index,
+                begin: false,
+            } => self.patch(alloc, index),
+            Command::Patch { begin: true, .. } => unreachable!(),
+            Command::Create { generation } => self.create(alloc, generation),
+            Command::Delete { generation } => self.delete(alloc, generation),
             Command::Tick { .. } => unreachable!(),
-            Command::Patch { .. } => unreachable!(),
-            Command::Create { .. } => unreachable!(),
-            Command::Delete { .. } => unreachable!(),
             Command::Tables { .. } => unreachable!(),
         }
+    }
+
+    /// The state of the flat machine.
+    pub fn state(&self) -> &Flat
+        ensures { result.now ≡ self.now.flat }
+    {
+        &self.flat
     }
 
     /// The report of what the machine made so far, with the names of its patches.

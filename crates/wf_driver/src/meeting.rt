@@ -4,17 +4,17 @@ ghost use Rattle.std.specs.Option.{option_map};
 ghost use Rattle.wf_flat.specs.declared.event.Event.TheVariants as events;
 ghost use Rattle.wf_flat.specs.declared.event.Entry.{Entry as FlatEntry};
 ghost use Rattle.wf_flat.specs.declared.state.Life.TheVariants.{Running};
-ghost use Rattle.wf_flat.specs.State.{FlatState};
+ghost use Rattle.wf_legal.specs.Legal.{Moment};
 ghost use Rattle.wf_outside.specs.Lists.{IsRising};
 ghost use Rattle.wf_flat.specs.Memory.{data_in, has_met, with_met, met_key};
 ghost use Rattle.wf_flat.specs.Steps.{OfHart, MayTake, access_in};
 ghost use Rattle.wf_flat.specs.Changes.{taken_by};
 ghost use Rattle.wf_verdict.specs.declared.work.Todo.TheVariants.{Exactly};
-ghost use Rattle.wf_driver.specs.Stepping.{IsActing, IsToDo, IsMeeting, IsSame, HasBegun};
+ghost use Rattle.wf_driver.specs.Stepping.{IsActing, IsToDo, IsMeeting, IsSame, HasOpenUnit};
 
 use crate::finding::generation_of;
-use crate::stepping::append;
 use wf_flat::{Actor, Entry, Event, Flat};
+use wf_service::append;
 
 // A hart's generation meets a page.
 fn sync(
@@ -32,9 +32,9 @@ fn sync(
     requires rising { IsRising (map met_key met.items) }
     requires ready { OfHart flat.old hart
         (λ state. IsToDo flat.old hart state (Exactly (events.Sync generation page) ∷ [])) }
-    ensures made { (s : FlatState) (before : List FlatEntry)
-        → HasBegun s before flat.old journal.old.items hart
-        → HasBegun s before flat.new journal.new.items hart }
+    ensures made { (m : Moment) (before : List FlatEntry)
+        → HasOpenUnit m before flat.old journal.old.items hart
+        → HasOpenUnit m before flat.new journal.new.items hart }
     ensures acts { IsActing flat.new hart None }
     ensures same { IsSame flat.old flat.new }
     ensures met { flat.new.met ≡ with_met flat.old.met generation page }
@@ -43,8 +43,8 @@ fn sync(
 {
     flat.enter(Actor::Hart(hart));
     flat.sync(hart, met);
-    append(journal, hart, Event::Enter);
-    append(journal, hart, Event::Sync { generation, page });
+    append(journal, Actor::Hart(hart), Event::Enter);
+    append(journal, Actor::Hart(hart), Event::Sync { generation, page });
 }
 
 // A hart's generation meets the page of its access, where `met` says what will be met then.
@@ -59,9 +59,9 @@ pub fn meet(
     requires there { hart < length flat.old.harts }
     requires acts { IsActing flat.old hart None }
     requires met { IsMeeting flat.old hart page (option_map (λ v. v.items) met) }
-    ensures made { (s : FlatState) (before : List FlatEntry)
-        → HasBegun s before flat.old journal.old.items hart
-        → HasBegun s before flat.new journal.new.items hart }
+    ensures made { (m : Moment) (before : List FlatEntry)
+        → HasOpenUnit m before flat.old journal.old.items hart
+        → HasOpenUnit m before flat.new journal.new.items hart }
     ensures acts { IsActing flat.new hart None }
     ensures same { IsSame flat.old flat.new }
     ensures met { OfHart flat.new hart
@@ -82,9 +82,9 @@ pub fn take(flat: &mut Flat, journal: &mut Vec<Entry>, hart: u8, page: u32)
     requires acts { IsActing flat.old hart None }
     requires may { OfHart flat.old hart
         (λ state. (state.life ≡ Running) × MayTake flat.old state (access_in state) page) }
-    ensures made { (s : FlatState) (before : List FlatEntry)
-        → HasBegun s before flat.old journal.old.items hart
-        → HasBegun s before flat.new journal.new.items hart }
+    ensures made { (m : Moment) (before : List FlatEntry)
+        → HasOpenUnit m before flat.old journal.old.items hart
+        → HasOpenUnit m before flat.new journal.new.items hart }
     ensures acts { IsActing flat.new hart (Some page) }
     ensures harts { flat.new.harts ≡ flat.old.harts }
     ensures gens { flat.new.gens ≡ flat.old.gens }
@@ -94,5 +94,5 @@ pub fn take(flat: &mut Flat, journal: &mut Vec<Entry>, hart: u8, page: u32)
     ensures capacity { vec_capacity journal.new ≡ vec_capacity journal.old }
 {
     flat.take(hart, page);
-    append(journal, hart, Event::Take { page });
+    append(journal, Actor::Hart(hart), Event::Take { page });
 }

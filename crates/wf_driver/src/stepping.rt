@@ -1,59 +1,43 @@
 //! One unit of a hart: a whole try, or an idle.
-ghost use Rattle.std.specs.Prelude.{◌≡◌, ◌≢◌, ◌<◌, ◌+◌, ◌++◌, ◌∷◌, [], ℕ, List, OnOk, OnErr, IfOk, Option, None, Some, Err, length, slice_get, vec_len, vec_capacity};
+ghost use Rattle.std.specs.Prelude.{◌≡◌, ◌≢◌, ◌<◌, ◌+◌, ◌∷◌, ◌^◌, [], ℕ, List, OnOk, OnErr, IfOk, Option, None, length, slice_get, vec_len, vec_capacity};
 ghost use Rattle.std.specs.Option.{option_map};
-ghost use Rattle.rv_inst.specs.Meanings.{called};
-ghost use Rattle.wf_outside.specs.declared.refusal.Refusal.TheVariants as refusals;
+ghost use Rattle.wf_outside.specs.declared.sizes.TheConstants.{MOST_FRAMES};
+ghost use Rattle.wf_outside.specs.Images.{DeltaValue};
 ghost use Rattle.wf_flat.specs.declared.event.Event.TheVariants as events;
 ghost use Rattle.wf_flat.specs.declared.event.Entry.{Entry as FlatEntry};
 ghost use Rattle.wf_flat.specs.declared.state.Life.TheVariants.{Running};
-ghost use Rattle.wf_flat.specs.State.{FlatState};
-ghost use Rattle.wf_flat.specs.Refusals.{refused_answer};
-ghost use Rattle.wf_flat.specs.Steps.{OfHart, access_in, arch_after};
-ghost use Rattle.wf_flat.specs.Changes.{fetched_with, answered};
+ghost use Rattle.wf_flat.specs.Steps.{OfHart};
+ghost use Rattle.wf_flat.specs.Changes.{fetched_with};
 ghost use Rattle.wf_verdict.specs.declared.work.Todo.TheVariants.{Exactly};
 ghost use Rattle.wf_flat.specs.Ordered.{IsOrdered};
 ghost use Rattle.wf_flat.specs.Follows.{IsUnit};
-ghost use Rattle.wf_follow.specs.Built.{IsUnbuilt};
-ghost use Rattle.wf_driver.specs.Stepping.{IsStart, IsResting, IsActing, IsAt, IsInTry, IsToDo, IsToMeet, IsDone, IsAction, HasBegun, Continues};
+ghost use Rattle.wf_legal.specs.Legal.{Moment, at_rest};
+ghost use Rattle.wf_sound.specs.Sound.{IsSound};
+ghost use Rattle.wf_service.specs.Resting.{IsResting};
+ghost use Rattle.wf_driver.specs.Stepping.{IsTryStart, IsActing, IsAt, IsInTry, IsToDo, IsToMeet, IsDone, IsAction, HasOpenUnit, Continues};
 
 use crate::actions::{Action, action_of};
-use crate::fault::ObeyFault;
 use crate::finding::page_to_sync;
 use crate::loading::load;
 use crate::storing::{page_to_sync_by, store};
-use rv_hart::finish_call;
 use rv_inst::Arch;
 use rv_inst::causes::INSTRUCTION_PAGE_FAULT;
-use std::alloc::AllocError;
-use wf_flat::{Actor, Entry, Event, Flat, Life, answer_of};
-use wf_outside::{Memory, Refusal};
+use std::alloc::Global;
+use wf_flat::{Actor, Entry, Event, Flat, Life};
+use wf_outside::{Delta, Memory};
+use wf_service::{append, serve_hart};
 
-// The most entries that a unit makes.
+// The most entries that a unit makes which is no call.
 const MOST: usize = 6;
-
-/// An entry of a hart, for which there is room.
-pub fn append(journal: &mut Vec<Entry>, hart: u8, event: Event)
-    requires { vec_len journal.old < vec_capacity journal.old }
-    ensures items { journal.new.items
-        ≡ journal.old.items ++ record { actor = Actor.Hart hart; event = event } ∷ [] }
-    ensures len { vec_len journal.new ≡ vec_len journal.old + 1 }
-    ensures capacity { vec_capacity journal.new ≡ vec_capacity journal.old }
-{
-    journal.push_reserved(Entry {
-        actor: Actor::Hart(hart),
-        event,
-    });
-}
 
 // A try begins: a hart fetches the word at its pc.
 fn fetch(flat: &mut Flat, journal: &mut Vec<Entry>, hart: u8, pc: u64, word: u32)
     requires room { vec_len journal.old < vec_capacity journal.old }
     requires acts { IsActing flat.old hart None }
     requires ready { OfHart flat.old hart (λ state. IsAt flat.old state pc word) }
-    requires built { IsUnbuilt flat.old hart pc → ⊥ }
-    ensures made { (s : FlatState) (before : List FlatEntry)
-        → HasBegun s before flat.old journal.old.items hart
-        → HasBegun s before flat.new journal.new.items hart }
+    ensures made { (m : Moment) (before : List FlatEntry)
+        → HasOpenUnit m before flat.old journal.old.items hart
+        → HasOpenUnit m before flat.new journal.new.items hart }
     ensures acts { IsActing flat.new hart None }
     ensures hart { slice_get flat.new.harts hart
         ≡ option_map (fetched_with word) (slice_get flat.old.harts hart) }
@@ -64,7 +48,7 @@ fn fetch(flat: &mut Flat, journal: &mut Vec<Entry>, hart: u8, pc: u64, word: u32
     ensures capacity { vec_capacity journal.new ≡ vec_capacity journal.old }
 {
     flat.fetch(hart, pc, word);
-    append(journal, hart, Event::Fetch { pc, word });
+    append(journal, Actor::Hart(hart), Event::Fetch { pc, word });
 }
 
 /// A try ends: its instruction is done, and leaves these registers; the page that it holds, if any,
@@ -73,14 +57,14 @@ pub fn end(flat: &mut Flat, journal: &mut Vec<Entry>, hart: u8, held: Option<u32
     requires room { vec_len journal.old < vec_capacity journal.old }
     requires acts { IsActing flat.old hart held }
     requires done { IsDone flat.old hart held next }
-    ensures made { (s : FlatState) (before : List FlatEntry)
-        → HasBegun s before flat.old journal.old.items hart
-        → Continues s before flat.new journal.new.items (IsUnit hart) }
+    ensures made { (m : Moment) (before : List FlatEntry)
+        → HasOpenUnit m before flat.old journal.old.items hart
+        → Continues m before flat.new journal.new.items (IsUnit hart) }
     ensures rests { IsResting flat.new }
     ensures harts { length flat.new.harts ≡ length flat.old.harts }
 {
     flat.end(hart, held, next);
-    append(journal, hart, Event::End { pc: next.pc });
+    append(journal, Actor::Hart(hart), Event::End { pc: next.pc });
 }
 
 /// A hart asks for its trap, and stops.
@@ -89,110 +73,16 @@ pub fn trap(flat: &mut Flat, journal: &mut Vec<Entry>, hart: u8, cause: u8, valu
     requires acts { IsActing flat.old hart None }
     requires ready { OfHart flat.old hart
         (λ state. IsToDo flat.old hart state (Exactly (events.Trap cause value) ∷ [])) }
-    ensures made { (s : FlatState) (before : List FlatEntry)
-        → HasBegun s before flat.old journal.old.items hart
-        → Continues s before flat.new journal.new.items (IsUnit hart) }
+    ensures made { (m : Moment) (before : List FlatEntry)
+        → HasOpenUnit m before flat.old journal.old.items hart
+        → Continues m before flat.new journal.new.items (IsUnit hart) }
     ensures rests { IsResting flat.new }
     ensures harts { length flat.new.harts ≡ length flat.old.harts }
 {
     flat.enter(Actor::Hart(hart));
     flat.trap(hart, cause, value);
-    append(journal, hart, Event::Enter);
-    append(journal, hart, Event::Trap { cause, value });
-}
-
-// A hart exits.
-fn exit(flat: &mut Flat, journal: &mut Vec<Entry>, hart: u8, code: u64)
-    requires room { vec_len journal.old + 1 < vec_capacity journal.old }
-    requires acts { IsActing flat.old hart None }
-    requires ready { OfHart flat.old hart
-        (λ state. IsToDo flat.old hart state (Exactly (events.Exit code) ∷ [])) }
-    ensures made { (s : FlatState) (before : List FlatEntry)
-        → HasBegun s before flat.old journal.old.items hart
-        → Continues s before flat.new journal.new.items (IsUnit hart) }
-    ensures rests { IsResting flat.new }
-    ensures harts { length flat.new.harts ≡ length flat.old.harts }
-{
-    flat.enter(Actor::Hart(hart));
-    flat.exit(hart, code);
-    append(journal, hart, Event::Enter);
-    append(journal, hart, Event::Exit { code });
-}
-
-// A call ends at once, and leaves these registers.
-fn answer(flat: &mut Flat, journal: &mut Vec<Entry>, hart: u8, next: Arch)
-    requires room { vec_len journal.old + 1 < vec_capacity journal.old }
-    requires acts { IsActing flat.old hart None }
-    requires call { OfHart flat.old hart (λ state. access_in state ≡ None) }
-    requires ready { OfHart flat.old hart
-        (λ state. IsToDo flat.old hart state (Exactly (events.End next.pc) ∷ [])
-        × (next ≡ arch_after state)) }
-    ensures made { (s : FlatState) (before : List FlatEntry)
-        → HasBegun s before flat.old journal.old.items hart
-        → Continues s before flat.new journal.new.items (IsUnit hart) }
-    ensures rests { IsResting flat.new }
-    ensures harts { length flat.new.harts ≡ length flat.old.harts }
-{
-    flat.enter(Actor::Hart(hart));
-    flat.end(hart, None, next);
-    append(journal, hart, Event::Enter);
-    append(journal, hart, Event::End { pc: next.pc });
-}
-
-// A byte is put, and the call leaves these registers.
-fn put_byte(flat: &mut Flat, journal: &mut Vec<Entry>, hart: u8, byte: u8, next: Arch)
-    requires room { vec_len journal.old + 2 < vec_capacity journal.old }
-    requires acts { IsActing flat.old hart None }
-    requires call { OfHart flat.old hart (λ state. access_in state ≡ None) }
-    requires ready { OfHart flat.old hart
-        (λ state. IsToDo flat.old hart state
-        (Exactly (events.Out byte) ∷ Exactly (events.End next.pc) ∷ [])
-        × (next ≡ arch_after (answered 0 state))) }
-    ensures made { (s : FlatState) (before : List FlatEntry)
-        → HasBegun s before flat.old journal.old.items hart
-        → Continues s before flat.new journal.new.items (IsUnit hart) }
-    ensures rests { IsResting flat.new }
-    ensures harts { length flat.new.harts ≡ length flat.old.harts }
-{
-    flat.enter(Actor::Hart(hart));
-    flat.out(hart, byte);
-    flat.end(hart, None, next);
-    append(journal, hart, Event::Enter);
-    append(journal, hart, Event::Out { byte });
-    append(journal, hart, Event::End { pc: next.pc });
-}
-
-// A call is refused, since none has its number, and leaves these registers.
-fn refuse(flat: &mut Flat, journal: &mut Vec<Entry>, hart: u8, number: u64, next: Arch)
-    requires room { vec_len journal.old + 2 < vec_capacity journal.old }
-    requires acts { IsActing flat.old hart None }
-    requires call { OfHart flat.old hart (λ state. access_in state ≡ None) }
-    requires ready { OfHart flat.old hart
-        (λ state. IsToDo flat.old hart state
-        (Exactly (events.Refused (refusals.Number number)) ∷ Exactly (events.End next.pc) ∷ [])
-        × (next ≡ arch_after (answered (refused_answer (refusals.Number number)) state))) }
-    ensures made { (s : FlatState) (before : List FlatEntry)
-        → HasBegun s before flat.old journal.old.items hart
-        → Continues s before flat.new journal.new.items (IsUnit hart) }
-    ensures rests { IsResting flat.new }
-    ensures harts { length flat.new.harts ≡ length flat.old.harts }
-{
-    let reason = Refusal::Number { n: number };
-    flat.enter(Actor::Hart(hart));
-    flat.refuse(hart, reason);
-    flat.end(hart, None, next);
-    append(journal, hart, Event::Enter);
-    append(journal, hart, Event::Refused { reason });
-    append(journal, hart, Event::End { pc: next.pc });
-}
-
-// The registers behind a call with this answer.
-fn after_call(arch: &Arch, answer: u64) -> Arch
-    ensures { result ≡ called arch.now answer }
-{
-    let mut next = *arch;
-    finish_call(&mut next, answer);
-    next
+    append(journal, Actor::Hart(hart), Event::Enter);
+    append(journal, Actor::Hart(hart), Event::Trap { cause, value });
 }
 
 // A hart in a try of a word does what it is to do.
@@ -210,9 +100,9 @@ fn carry_out(
     requires ready { OfHart flat.old hart (IsInTry arch.now word) }
     requires action { IsAction arch.now word action }
     requires met { IsToMeet flat.old hart action (option_map (λ v. v.items) met) }
-    ensures made { (s : FlatState) (before : List FlatEntry)
-        → HasBegun s before flat.old journal.old.items hart
-        → Continues s before flat.new journal.new.items (IsUnit hart) }
+    ensures made { (m : Moment) (before : List FlatEntry)
+        → HasOpenUnit m before flat.old journal.old.items hart
+        → Continues m before flat.new journal.new.items (IsUnit hart) }
     ensures rests { IsResting flat.new }
     ensures harts { length flat.new.harts ≡ length flat.old.harts }
 {
@@ -223,16 +113,6 @@ fn carry_out(
         ),
         Action::Store { operand, write } => store(flat, journal, hart, arch, operand, write, met),
         Action::Trap { cause, value } => trap(flat, journal, hart, cause, value),
-        Action::Exit { code } => exit(flat, journal, hart, code),
-        Action::Out { byte } => put_byte(flat, journal, hart, byte, after_call(arch, 0)),
-        Action::OwnGeneration => {
-            let own = u64::from(flat.harts[hart as usize].generation);
-            answer(flat, journal, hart, after_call(arch, own));
-        }
-        Action::Refuse { number } => {
-            let answer = answer_of(Refusal::Number { n: number });
-            refuse(flat, journal, hart, number, after_call(arch, answer));
-        }
     }
 }
 
@@ -250,28 +130,28 @@ fn to_meet(flat: &Flat, hart: u8, action: &Action) -> Result<Option<Vec<(u32, u3
     }
 }
 
-// A hart that runs and is in no try does what it is to do with the word at its pc.
+// A hart that runs and is in no try does what it is to do with the word at its pc, which is no
+// call.
 fn try_word(
     flat: &mut Flat,
     journal: &mut Vec<Entry>,
     hart: u8,
     arch: &Arch,
     word: u32,
-) -> Result<(), ObeyFault>
+    action: Action,
+) -> Result<(), Memory>
     requires room { vec_len journal.old + 5 < vec_capacity journal.old }
     requires rests { IsResting flat.old }
     requires ready { OfHart flat.old hart
         (λ state. IsAt flat.old state arch.now.pc word × (state.arch ≡ arch.now)) }
-    ensures ok { OnOk result
-        (Continues flat.old journal.old.items flat.new journal.new.items (IsUnit hart)) }
-    ensures unbuilt { (pc : ℕ) → result ≡ Err (ObeyFault.Unbuilt pc) → IsUnbuilt flat.old hart pc }
+    requires action { IsAction arch.now word action }
+    ensures ok { (deltas : List DeltaValue) → OnOk result
+        (Continues (at_rest deltas flat.old) journal.old.items flat.new journal.new.items
+        (IsUnit hart)) }
     ensures err { OnErr result ((flat.new ≡ flat.old) × (journal.new.items ≡ journal.old.items)) }
     ensures rests { IsResting flat.new }
     ensures harts { length flat.new.harts ≡ length flat.old.harts }
 {
-    let Some(action) = action_of(arch, word) else {
-        return Err(ObeyFault::Unbuilt { pc: arch.pc });
-    };
     let met = to_meet(flat, hart, &action)?;
     fetch(flat, journal, hart, arch.pc, word);
     carry_out(flat, journal, hart, arch, word, action, met);
@@ -291,7 +171,7 @@ enum Start {
 
 fn start_of(flat: &Flat, hart: u8) -> Start
     requires { hart < length flat.now.harts }
-    ensures { IsStart flat.now hart result }
+    ensures { IsTryStart flat.now hart result }
 {
     let state = &flat.harts[hart as usize];
     if state.life != Life::Running {
@@ -309,19 +189,29 @@ fn idle(flat: &Flat, journal: &mut Vec<Entry>, hart: u8)
     requires room { vec_len journal.old < vec_capacity journal.old }
     requires rests { IsResting flat.now }
     requires ready { OfHart flat.now hart (λ state. state.life ≢ Running) }
-    ensures { Continues flat.now journal.old.items flat.now journal.new.items (IsUnit hart) }
+    ensures { (deltas : List DeltaValue)
+        → Continues (at_rest deltas flat.now) journal.old.items flat.now journal.new.items
+        (IsUnit hart) }
 {
-    append(journal, hart, Event::Idle);
+    append(journal, Actor::Hart(hart), Event::Idle);
 }
 
 /// One unit of a hart: a whole instruction or call, a trap, an exit, or an idle where it has
-/// stopped. After an error nothing has changed.
-pub fn step(flat: &mut Flat, journal: &mut Vec<Entry>, hart: u8) -> Result<(), ObeyFault>
+/// stopped. `deltas` are the run's patches. After an error nothing has changed.
+pub fn step(
+    alloc: Global,
+    flat: &mut Flat,
+    deltas: &[Delta],
+    journal: &mut Vec<Entry>,
+    hart: u8,
+) -> Result<(), Memory>
+    requires sound { IsSound (at_rest deltas.now flat.old) }
     requires rests { IsResting flat.old }
+    requires births { flat.old.births + MOST_FRAMES < 2 ^ 64 }
     requires there { hart < length flat.old.harts }
     ensures ok { OnOk result
-        (Continues flat.old journal.old.items flat.new journal.new.items (IsUnit hart)) }
-    ensures unbuilt { (pc : ℕ) → result ≡ Err (ObeyFault.Unbuilt pc) → IsUnbuilt flat.old hart pc }
+        (Continues (at_rest deltas.now flat.old) journal.old.items flat.new journal.new.items
+        (IsUnit hart)) }
     ensures err { OnErr result ((flat.new ≡ flat.old) × (journal.new.items ≡ journal.old.items)) }
     ensures rests { IsResting flat.new }
     ensures harts { length flat.new.harts ≡ length flat.old.harts }
@@ -332,7 +222,10 @@ pub fn step(flat: &mut Flat, journal: &mut Vec<Entry>, hart: u8) -> Result<(), O
             idle(flat, journal, hart);
             Ok(())
         }
-        Start::Word { arch, word } => try_word(flat, journal, hart, &arch, word),
+        Start::Word { arch, word } => match action_of(&arch, word) {
+            Some(action) => try_word(flat, journal, hart, &arch, word, action),
+            None => serve_hart(alloc, flat, deltas, journal, hart, word),
+        },
         Start::Fault { pc } => {
             trap(flat, journal, hart, INSTRUCTION_PAGE_FAULT, pc);
             Ok(())

@@ -5,24 +5,27 @@ ghost use Rattle.rv_inst.specs.Spelling.{IsSpelled};
 ghost use Rattle.rv_inst.specs.Meanings.{want_of};
 ghost use Rattle.wf_flat.specs.declared.event.Entry.{Entry as FlatEntry};
 ghost use Rattle.wf_flat.specs.declared.state.Life.TheVariants.{Running};
-ghost use Rattle.wf_flat.specs.State.{FlatState, PageState};
+ghost use Rattle.wf_flat.specs.State.{PageState};
+ghost use Rattle.wf_legal.specs.Legal.{Moment};
 ghost use Rattle.wf_outside.specs.Pages.{page_of};
 ghost use Rattle.wf_flat.specs.Serving.{held_by, IsWidth};
 ghost use Rattle.wf_flat.specs.Accesses.{access_of, has_reserved as reserved, stands as standing};
 ghost use Rattle.wf_flat.specs.Ordered.{IsOrdered};
 ghost use Rattle.wf_flat.specs.Steps.{OfHart, MayMiss, access_in, is_conditional, is_lost as lost};
 ghost use Rattle.wf_flat.specs.Follows.{IsUnit};
-ghost use Rattle.wf_driver.specs.Stepping.{IsResting, IsActing, InAccess, IsStore, IsFound, IsNear, IsPageToSync, WillReach, WillWrite, HasBegun, Continues, store_at, store_want};
+ghost use Rattle.wf_service.specs.Resting.{IsResting};
+ghost use Rattle.wf_driver.specs.Stepping.{IsActing, InAccess, IsStore, IsFoundPage, IsNear, IsPageToSync, WillReach, WillWrite, HasOpenUnit, Continues, store_at, store_want};
 
 use crate::actions::{Operand, Write, finished};
 use crate::finding::{Found, data_value, found_at, page_to_sync, text_value};
 use crate::meeting::{meet, take};
-use crate::stepping::{append, end, trap};
+use crate::stepping::{end, trap};
 use rv_alu::{AmoOp, amo};
 use rv_inst::Arch;
 use rv_inst::causes::STORE_PAGE_FAULT;
-use wf_flat::{Entry, Event, Flat, Reservation};
+use wf_flat::{Actor, Entry, Event, Flat, Reservation};
 use wf_outside::Memory;
+use wf_service::append;
 
 // The low bytes of a value, 1, 2, 4 or 8 of them.
 fn low_bytes(value: u64, width: u8) -> u64
@@ -52,9 +55,9 @@ fn put(
     requires store { IsStore arch.now operand (Write.Put value) }
     requires ready { InAccess flat.old hart arch.now operand.inst }
     requires held { Some page ≡ held_by flat.old hart (Some (store_at operand)) }
-    ensures made { (s : FlatState) (before : List FlatEntry)
-        → HasBegun s before flat.old journal.old.items hart
-        → Continues s before flat.new journal.new.items (IsUnit hart) }
+    ensures made { (m : Moment) (before : List FlatEntry)
+        → HasOpenUnit m before flat.old journal.old.items hart
+        → Continues m before flat.new journal.new.items (IsUnit hart) }
     ensures rests { IsResting flat.new }
     ensures harts { length flat.new.harts ≡ length flat.old.harts }
 {
@@ -62,7 +65,7 @@ fn put(
     flat.put(hart, operand.va, operand.width, low);
     append(
         journal,
-        hart,
+        Actor::Hart(hart),
         Event::Put {
             va: operand.va,
             width: operand.width,
@@ -94,9 +97,9 @@ fn put_if(
     requires store { IsStore arch.now operand (Write.PutIf value) }
     requires ready { InAccess flat.old hart arch.now operand.inst }
     requires held { Some page ≡ held_by flat.old hart (Some (store_at operand)) }
-    ensures made { (s : FlatState) (before : List FlatEntry)
-        → HasBegun s before flat.old journal.old.items hart
-        → Continues s before flat.new journal.new.items (IsUnit hart) }
+    ensures made { (m : Moment) (before : List FlatEntry)
+        → HasOpenUnit m before flat.old journal.old.items hart
+        → Continues m before flat.new journal.new.items (IsUnit hart) }
     ensures rests { IsResting flat.new }
     ensures harts { length flat.new.harts ≡ length flat.old.harts }
 {
@@ -104,7 +107,7 @@ fn put_if(
     flat.put_if(hart, operand.va, operand.width, low);
     append(
         journal,
-        hart,
+        Actor::Hart(hart),
         Event::Put {
             va: operand.va,
             width: operand.width,
@@ -137,9 +140,9 @@ fn swap(
     requires store { IsStore arch.now operand (Write.Swap op value) }
     requires ready { InAccess flat.old hart arch.now operand.inst }
     requires held { Some page ≡ held_by flat.old hart (Some (store_at operand)) }
-    ensures made { (s : FlatState) (before : List FlatEntry)
-        → HasBegun s before flat.old journal.old.items hart
-        → Continues s before flat.new journal.new.items (IsUnit hart) }
+    ensures made { (m : Moment) (before : List FlatEntry)
+        → HasOpenUnit m before flat.old journal.old.items hart
+        → Continues m before flat.new journal.new.items (IsUnit hart) }
     ensures rests { IsResting flat.new }
     ensures harts { length flat.new.harts ≡ length flat.old.harts }
 {
@@ -148,7 +151,7 @@ fn swap(
     flat.swap(hart, operand.va, operand.width, old, new);
     append(
         journal,
-        hart,
+        Actor::Hart(hart),
         Event::Swap {
             va: operand.va,
             width: operand.width,
@@ -176,14 +179,14 @@ fn miss(flat: &mut Flat, journal: &mut Vec<Entry>, hart: u8, arch: &Arch, operan
     requires may { OfHart flat.old hart
         (λ state. (state.life ≡ Running)
         × MayMiss flat.old hart state (access_in state) operand.va) }
-    ensures made { (s : FlatState) (before : List FlatEntry)
-        → HasBegun s before flat.old journal.old.items hart
-        → Continues s before flat.new journal.new.items (IsUnit hart) }
+    ensures made { (m : Moment) (before : List FlatEntry)
+        → HasOpenUnit m before flat.old journal.old.items hart
+        → Continues m before flat.new journal.new.items (IsUnit hart) }
     ensures rests { IsResting flat.new }
     ensures harts { length flat.new.harts ≡ length flat.old.harts }
 {
     flat.miss(hart, operand.va);
-    append(journal, hart, Event::Miss { va: operand.va });
+    append(journal, Actor::Hart(hart), Event::Miss { va: operand.va });
     end(flat, journal, hart, None, finished(arch, operand.inst, 1));
 }
 
@@ -201,13 +204,13 @@ fn write_page(
     requires acts { IsActing flat.old hart None }
     requires store { IsStore arch.now operand write }
     requires ready { InAccess flat.old hart arch.now operand.inst }
-    requires found { IsFound flat.old (page_of operand.va) found }
+    requires found { IsFoundPage flat.old (page_of operand.va) found }
     requires right { found.write ≡ true }
     requires near { IsNear flat.old hart operand.va found.page }
     requires takes { WillWrite flat.old hart operand write true }
-    ensures made { (s : FlatState) (before : List FlatEntry)
-        → HasBegun s before flat.old journal.old.items hart
-        → Continues s before flat.new journal.new.items (IsUnit hart) }
+    ensures made { (m : Moment) (before : List FlatEntry)
+        → HasOpenUnit m before flat.old journal.old.items hart
+        → Continues m before flat.new journal.new.items (IsUnit hart) }
     ensures rests { IsResting flat.new }
     ensures harts { length flat.new.harts ≡ length flat.old.harts }
 {
@@ -249,7 +252,7 @@ fn has_reserved(reservation: Option<Reservation>, operand: Operand) -> bool
 // reservation stands, and any other.
 fn will_write(flat: &Flat, hart: u8, operand: Operand, write: Write, found: Found) -> bool
     requires there { hart < length flat.now.harts }
-    requires found { IsFound flat.now (page_of operand.va) found }
+    requires found { IsFoundPage flat.now (page_of operand.va) found }
     ensures { WillWrite flat.now hart operand write result }
 {
     let state = &flat.harts[hart as usize];
@@ -292,9 +295,9 @@ pub fn store(
     requires ready { InAccess flat.old hart arch.now operand.inst }
     requires met { WillReach flat.old hart operand write
         → IsPageToSync flat.old hart operand.va (option_map (λ v. v.items) met) }
-    ensures made { (s : FlatState) (before : List FlatEntry)
-        → HasBegun s before flat.old journal.old.items hart
-        → Continues s before flat.new journal.new.items (IsUnit hart) }
+    ensures made { (m : Moment) (before : List FlatEntry)
+        → HasOpenUnit m before flat.old journal.old.items hart
+        → Continues m before flat.new journal.new.items (IsUnit hart) }
     ensures rests { IsResting flat.new }
     ensures harts { length flat.new.harts ≡ length flat.old.harts }
 {
@@ -332,9 +335,12 @@ pub fn page_to_sync_by(
 ) -> Result<Option<Vec<(u32, u32)>>, Memory>
     requires there { hart < length flat.now.harts }
     requires ordered { IsOrdered flat.now }
-    ensures { IfOk result
+    ensures met { IfOk result
         (λ met. WillReach flat.now hart operand write
         → IsPageToSync flat.now hart operand.va (option_map (λ v. v.items) met)) }
+    ensures lost { OfHart flat.now hart
+        (λ state. lost (Some (store_want operand write)) state.reservation ≡ true)
+        → IfOk result (λ met. met ≡ None) }
 {
     if is_lost(flat, hart, operand, write) {
         return Ok(None);

@@ -1,1 +1,2 @@
 pub mod LoadedLemmas
+pub mod StageLemmas

@@ -1,91 +1,67 @@
 -- An entry of a unit of a hart: it gives no try up, it is determined, and behind it the unit ended, or
 -- goes on.
-use Rattle.std.proofs.Common.{◌≡◌, ℕ, List, [], ◌∷◌, Option, Some, None, Bool, true, false, refl, sym, subst, inl, inr}
-use Rattle.std.specs.Prelude.{MatchBool, slice_get, ◌||◌, if◌then◌else◌}
+use Rattle.std.proofs.Common.{◌≡◌, ◌⊎◌, ℕ, List, [], ◌∷◌, Option, Some, None, Bool, true, false, refl, sym, subst, ap, ◌∙◌, inl, inr}
+use Rattle.std.specs.Prelude.{MatchBool, slice_get, ◌||◌, unwrap_or}
+use Rattle.std.specs.Option.{option_map}
 use Rattle.std.specs.List.{AllByRecursion}
 use Rattle.std.proofs.lemmas.Bool.{and_parts}
 use Rattle.wf_outside.specs.Images.{DeltaValue}
 use Rattle.wf_flat.specs.declared.event.Actor.{Actor}
 use Rattle.wf_flat.specs.declared.event.Actor.TheVariants.{Hart}
 use Rattle.wf_flat.specs.declared.event.Event.{Event}
-use Rattle.wf_flat.specs.declared.event.Event.TheVariants.{Fetch, Look, Take, Put, Swap, Miss, End, Again, Wait, Enter, Sync, Trap, Exit, Out, Idle, Refused}
+use Rattle.wf_flat.specs.declared.event.Event.TheVariants.{Fetch, Look, Take, Put, Swap, Miss, End, Again, Wait, Enter, Sync, Trap, Exit, Out, Idle, Map, Going, Gone, Born, Move, Dead, Refused}
 use Rattle.wf_flat.specs.declared.event.WaitFor.{WaitFor}
 use Rattle.wf_flat.specs.declared.event.WaitFor.TheVariants as waits
 use Rattle.wf_flat.specs.declared.event.Entry.{Entry}
 use Rattle.wf_flat.specs.State.{FlatState, HartState, PageState}
 use Rattle.wf_flat.specs.Memory.{data_in}
 use Rattle.wf_flat.specs.Accesses.{Access, has_moved, holder_is, in_reach, is_held_by_other}
-use Rattle.wf_flat.specs.Refusals.{refused_answer}
 use Rattle.wf_flat.specs.Steps.{MayAct, MayTryAgain, MayWait, MayWaitForPage, OfHart, access_in, is_inside, is_kept_from, is_page_going}
-use Rattle.wf_flat.specs.Changes.{exited_with, trapped_with}
 use Rattle.wf_flat.specs.Follows.{ends_unit}
 use Rattle.wf_verdict.specs.declared.work.Todo.{Todo}
 use Rattle.wf_verdict.specs.declared.work.Todo.TheVariants.{Exactly, Leaves}
 use Rattle.wf_legal.specs.Events.{flat_after}
-use Rattle.wf_legal.specs.Calls.{Call, Doing, GoesOn, Settles, Settling, call_behind, closes_hart_call, may_go, todo_by}
-use Rattle.wf_legal.specs.Legal.{Moment, Allows, after, call_after}
-use Rattle.wf_follow.specs.Built.{StandsAtBuilt}
+use Rattle.wf_legal.specs.Calls.{Call, Doing, GoesOn, IsNext, Settling, call_behind, later, settled_with, todo_by, todo_with}
+use Rattle.wf_legal.specs.Legal.{Moment, Allows, after}
 use Rattle.wf_next.specs.Determined.{HartsAreDetermined, IsOwn, IsUndisturbed, LeavesAreGoing}
 use Rattle.wf_flat.proofs.ListLemmas.{some_and, and_some}
 use Rattle.wf_legal.proofs.JournalLemmas.{self_inside}
 use Rattle.wf_next.proofs.ActLemmas.{at_some}
 use Rattle.wf_next.proofs.QuietLemmas.{found_all}
+use Rattle.wf_follow.specs.Requests.{is_gone}
 use Rattle.wf_follow.specs.Laws.{GivesUp}
-use Rattle.wf_follow.proofs.CalmLemmas.{IsCalm, IsCalmCall, calm_later, calm_next, calm_settled, calm_todo, calm_with, is_calm}
+use Rattle.wf_follow.proofs.BirthLemmas.{IsFew}
 use Rattle.wf_follow.proofs.HartLemmas.{all_but, all_get}
-use Rattle.wf_follow.proofs.PageLemmas.{free_kept, kept_own}
-use Rattle.wf_follow.proofs.UnitLemmas.{IsMoving, IsRest, IsStill, IsTrying, answers, ends, enters, fetches, idles, looks, meets, misses, puts, stops, swaps, takes}
+use Rattle.wf_follow.proofs.PageLemmas.{free_kept, kept_own, none_settles}
+use Rattle.wf_follow.proofs.ServedLemmas.{IsBehindCall, IsServed, enters, leaves_gone, served_more, serves}
+use Rattle.wf_follow.proofs.StayLemmas.{staying_free}
+use Rattle.wf_follow.proofs.UnitLemmas.{IsMoving, IsRest, IsStill, IsTrying, ends, fetches, idles, looks, misses, puts, swaps, takes}
+use Rattle.wf_follow.proofs.WorkLemmas.{FitsBefore, IsHartStart, IsHartWork, fits_event, is_hart_event, later_work, next_same, start_work, todo_start}
 
--- between two units, and within a unit of a hart; what a call in hand has to do is built
+-- between two units
 abbrev pub AtRest : Moment → Type 0
-AtRest m = IsRest m.flat × IsCalmCall m.call
+AtRest m = IsRest m.flat × (m.call ≡ None)
 
+-- a hart is inside, with this call
+abbrev pub IsInside : ℕ → FlatState → Option Call → Type 0
+IsInside h s None = ⊥
+IsInside h s (Some (Settling owed last)) = IsServed h [] s
+IsInside h s (Some (Doing todo)) = IsServed h todo s × IsHartWork todo
+
+-- within a unit of a hart: outside, or in a call of the hart
 abbrev pub InUnit : ℕ → Moment → Type 0
-InUnit h m = IsMoving h m.flat × IsCalmCall m.call
+InUnit h m = (IsMoving h m.flat × (m.call ≡ None)) ⊎ IsInside h m.flat m.call
 
 -- an event that gives no try up
 abbrev pub IsWhole : Event → Type 0
 IsWhole event = GivesUp event → ⊥
 
+-- an entry of the unit: behind it the unit ended, or goes on
+abbrev pub IsAlong : ℕ → Event → Moment → Type 0
+IsAlong h e m = MatchBool (ends_unit e) (AtRest m) (InUnit h m)
+
 own : (h : ℕ) (s : FlatState) → IsMoving h s → AllByRecursion (IsOwn h) s.pages
 own h s k = kept_own h k.held s.pages k.pages
-
--- inside, a call that is built goes on
-none_settles : (h : ℕ) (s : FlatState) (owed : List ℕ) (last : Option ℕ) (e : Event) → IsMoving h s → Settles s owed last e → ⊥
-none_settles h s owed last e k d =
-    let w = some_and (data_in s.pages d.page) _ d.may in
-    let here = (found_all (IsOwn h) s.pages d.page w.0 (own h s k) w.1).0 in
-    let stays : may_go w.0 ≡ false = rw here refl in
-    let goes = w.2 in
-    cc
-
-calm_goes : (deltas : List DeltaValue) (s : FlatState) (h : ℕ) (call : Option Call) (e : Event) → IsMoving h s → IsCalmCall call → GoesOn deltas s (Hart h) call e → is_calm e ≡ true
-calm_goes deltas s h None e k c goes = absurd goes
-calm_goes deltas s h (Some (Doing todo)) e k c goes = calm_next s todo e c goes
-calm_goes deltas s h (Some (Settling owed last)) e k c goes = elim goes [
-  | inl settles ↦ absurd (none_settles h s owed last e k settles)
-  | inr begins ↦ (
-      let w = some_and (slice_get s.harts h) (IsTrying k.held) k.harts.1 in
-      calm_next s (todo_by deltas s h w.0) e (calm_todo deltas s h w.0 w.2.calm) (at_some (slice_get s.harts h) _ w.0 w.1 begins.1))
-]
-
--- the call in hand stays so
-calm_behind : (deltas : List DeltaValue) (s : FlatState) (h : ℕ) (call : Option Call) (e : Event) → IsMoving h s → IsCalmCall call → IsCalmCall (call_behind deltas s (Hart h) call e)
-calm_behind deltas s h None e k c = tt
-calm_behind deltas s h (Some (Doing todo)) e k c = calm_later todo c
-calm_behind deltas s h (Some (Settling owed last)) e k c =
-    calm_settled deltas s h owed e (calm_with deltas s h (slice_get s.harts h) (λ hart is. (at_some (slice_get s.harts h) (IsTrying k.held) hart is k.harts.1).calm))
-
-calm_if : (a b : Bool) (behind now : Option Call) → IsCalmCall behind → IsCalmCall now → IsCalmCall (if a then (if b then None else behind) else now)
-calm_if true true behind now p q = tt
-calm_if true false behind now p q = p
-calm_if false b behind now p q = q
-
-calm_after : (h : ℕ) (m : Moment) (e : Event) → InUnit h m → IsCalmCall (call_after m (Hart h) e)
-calm_after h m Enter k = tt
-calm_after h m e k =
-    calm_if (is_inside m.flat.inside (Hart h)) (closes_hart_call e) (call_behind m.deltas m.flat (Hart h) m.call e) m.call
-    (calm_behind m.deltas m.flat h m.call e k.0 k.1) k.1
 
 -- outside, no try is given up
 going_here : (h : ℕ) (pages : List PageState) (number : ℕ) (o : Option PageState) → data_in pages number ≡ o → AllByRecursion (IsOwn h) pages → is_page_going o ≡ false
@@ -123,115 +99,186 @@ no_wait : (h : ℕ) (s : FlatState) (hart : HartState) (on : WaitFor) → s.insi
 no_wait h s hart (waits.Page page) outside all p = no_page_wait h s hart page (access_in hart) all p
 no_wait h s hart (waits.Kernel other) outside all p = let inside = p.0.0 in cc
 
-whole_outside : (h : ℕ) (s : FlatState) (e : Event) → IsMoving h s → s.inside ≡ None → MayAct s (Hart h) e → IsWhole e
-whole_outside h s (Again page) k outside may gives =
+whole_outside : (h : ℕ) (s : FlatState) (e : Event) → IsMoving h s → MayAct s (Hart h) e → IsWhole e
+whole_outside h s (Again page) k may gives =
     let w = some_and (slice_get s.harts h) (IsTrying k.held) k.harts.1 in
-    no_again h s w.0 page (access_in w.0) w.2.calm.0 (own h s k) (at_some (slice_get s.harts h) _ w.0 w.1 may).1
-whole_outside h s (Wait on) k outside may gives =
+    no_again h s w.0 page (access_in w.0) w.2.still (own h s k) (at_some (slice_get s.harts h) _ w.0 w.1 may).1
+whole_outside h s (Wait on) k may gives =
     let w = some_and (slice_get s.harts h) (IsTrying k.held) k.harts.1 in
-    no_wait h s w.0 on outside (own h s k) (at_some (slice_get s.harts h) _ w.0 w.1 may).1
-whole_outside h s e k outside may gives = gives
-
-whole_inside : (e : Event) → is_calm e ≡ true → IsWhole e
-whole_inside (Again page) calm gives = cc
-whole_inside (Wait on) calm gives = cc
-whole_inside e calm gives = gives
-
--- behind an event of the unit: it ended, or goes on
-abbrev pub IsBehind : ℕ → Event → FlatState → Type 0
-IsBehind h e s = MatchBool (ends_unit e) (IsRest s) (IsMoving h s)
-
-outside : (h : ℕ) (m : Moment) (e : Event) → IsMoving h m.flat → m.flat.inside ≡ None → MayAct m.flat (Hart h) e → StandsAtBuilt m (Hart h) e → IsBehind h e (flat_after m.deltas m.flat (Hart h) e)
-outside h m (Fetch pc word) k none may built = fetches h pc word m.flat k may built
-outside h m (Look va width value) k none may built = looks h va width value m.flat k
-outside h m (Take page) k none may built = takes h page m.flat k none may
-outside h m (Put va width value) k none may built = puts h va width value m.flat k
-outside h m (Swap va width old new) k none may built = swaps h va width old new m.flat k
-outside h m (Miss va) k none may built = misses h m.flat k
-outside h m (End pc) k none may built = ends h m.flat k
-outside h m (Again page) k none may built = absurd (whole_outside h m.flat (Again page) k none may tt)
-outside h m (Wait on) k none may built = absurd (whole_outside h m.flat (Wait on) k none may tt)
-outside h m Enter k none may built = enters h m.flat k may
-outside h m Idle k none may built = idles h m.flat k none may
-outside h m e k none may built = absurd may
-
-inside : (deltas : List DeltaValue) (h : ℕ) (s : FlatState) (e : Event) (k : IsMoving h s) → k.held ≡ None → is_calm e ≡ true → IsBehind h e (flat_after deltas s (Hart h) e)
-inside deltas h s (End pc) k none calm = ends h s k
-inside deltas h s (Sync generation page) k none calm = meets h generation page s k
-inside deltas h s (Trap cause value) k none calm = stops h s (trapped_with cause value) k none (λ hart. refl) (λ hart. refl)
-inside deltas h s (Exit code) k none calm = stops h s (exited_with code) k none (λ hart. refl) (λ hart. refl)
-inside deltas h s (Out byte) k none calm = answers h 0 s k
-inside deltas h s (Refused reason) k none calm = answers h (refused_answer reason) s k
-inside deltas h s e k none calm = absurd (cc)
+    no_wait h s w.0 on k.outside (own h s k) (at_some (slice_get s.harts h) _ w.0 w.1 may).1
+whole_outside h s e k may gives = gives
 
 -- who is inside
-not_inside : (h : ℕ) (s : FlatState) → IsMoving h s → is_inside s.inside (Hart h) ≡ false → s.inside ≡ None
-not_inside h s k i = elim k.side [
-  | inl e ↦ e
-  | inr e ↦ (
-      let is : is_inside s.inside (Hart h) ≡ true = subst (λ (o : Option Actor). is_inside o (Hart h) ≡ true) (sym e.0) (self_inside h) in
-      absurd (cc))
+not_inside : (h : ℕ) (o : Option Actor) → o ≡ None → is_inside o (Hart h) ≡ false
+not_inside h o e = rw e refl
+
+is_there : (h : ℕ) (o : Option Actor) → o ≡ Some (Hart h) → is_inside o (Hart h) ≡ true
+is_there h o e = subst (λ (x : Option Actor). is_inside x (Hart h) ≡ true) (sym e) (self_inside h)
+
+-- outside, with no call open
+may_act : (h : ℕ) (m : Moment) (e : Event) → IsMoving h m.flat → Allows m (Hart h) e → MayAct m.flat (Hart h) e
+may_act h m e k allowed = subst (λ (b : Bool). MatchBool b (GoesOn m.deltas m.flat (Hart h) m.call e) (MayAct m.flat (Hart h) e)) (not_inside h m.flat.inside k.outside) allowed
+
+outside : (h : ℕ) (m : Moment) (e : Event) → IsMoving h m.flat → m.call ≡ None → MayAct m.flat (Hart h) e → IsAlong h e (after m (Hart h) e)
+outside h m (Fetch pc word) k none may = let out = not_inside h m.flat.inside k.outside in inl (fetches h pc word m.flat k may, rw out none)
+outside h m (Look va width value) k none may = let out = not_inside h m.flat.inside k.outside in inl (looks h va width value m.flat k, rw out none)
+outside h m (Take page) k none may = let out = not_inside h m.flat.inside k.outside in inl (takes h page m.flat k may, rw out none)
+outside h m (Put va width value) k none may = let out = not_inside h m.flat.inside k.outside in inl (puts h va width value m.flat k, rw out none)
+outside h m (Swap va width old new) k none may = let out = not_inside h m.flat.inside k.outside in inl (swaps h va width old new m.flat k, rw out none)
+outside h m (Miss va) k none may = let out = not_inside h m.flat.inside k.outside in inl (misses h m.flat k, rw out none)
+outside h m (End pc) k none may = let out = not_inside h m.flat.inside k.outside in (ends h m.flat k, rw out none)
+outside h m (Again page) k none may = absurd (whole_outside h m.flat (Again page) k may tt)
+outside h m (Wait on) k none may = absurd (whole_outside h m.flat (Wait on) k may tt)
+outside h m Enter k none may = inr (enters h m.flat k may)
+outside h m Idle k none may = let out = not_inside h m.flat.inside k.outside in (idles h m.flat k may, rw out none)
+outside h m e k none may = absurd may
+
+-- inside, an event of the call, behind which this is to be done
+abbrev GoesAlong : ℕ → Moment → Event → List Todo → Type 0
+GoesAlong h m e todo =
+    IsBehindCall h e todo (flat_after m.deltas m.flat (Hart h) e) × IsHartWork todo × (is_hart_event e ≡ true) × (call_behind m.deltas m.flat (Hart h) m.call e ≡ Some (Doing todo))
+
+goes_on : (h : ℕ) (todo : List Todo) (s : FlatState) (call : Option Call) → call ≡ Some (Doing todo) → IsServed h todo s → IsHartWork todo → IsInside h s call
+goes_on h todo s call is k work = subst (IsInside h s) (sym is) (k, work)
+
+inside : (h : ℕ) (m : Moment) (e : Event) (todo : List Todo) → is_inside m.flat.inside (Hart h) ≡ true → GoesAlong h m e todo → IsAlong h e (after m (Hart h) e)
+inside h m (End pc) todo there p = (p.0, rw there refl)
+inside h m (Sync generation page) todo there p = inl (p.0, rw there refl)
+inside h m (Trap cause value) todo there p = (p.0, rw there refl)
+inside h m (Exit code) todo there p = (p.0, rw there refl)
+inside h m (Out byte) todo there p = inr (goes_on h todo _ _ (rw there p.3) p.0 p.1)
+inside h m (Map page n write patch) todo there p = inr (goes_on h todo _ _ (rw there p.3) p.0 p.1)
+inside h m (Going page n) todo there p = inr (goes_on h todo _ _ (rw there p.3) p.0 p.1)
+inside h m (Gone page worn) todo there p = inr (goes_on h todo _ _ (rw there p.3) p.0 p.1)
+inside h m (Born generation parent patch) todo there p = inr (goes_on h todo _ _ (rw there p.3) p.0 p.1)
+inside h m (Move generation) todo there p = inr (goes_on h todo _ _ (rw there p.3) p.0 p.1)
+inside h m (Dead generation) todo there p = inr (goes_on h todo _ _ (rw there p.3) p.0 p.1)
+inside h m (Refused reason) todo there p = inr (goes_on h todo _ _ (rw there p.3) p.0 p.1)
+inside h m e todo there p = absurd (let is = p.2 in cc)
+
+-- what the call has to do that begins or goes on with an event
+start_event : (s : FlatState) (todo : List Todo) (e : Event) → IsHartStart todo → IsNext s todo e → FitsBefore e (later todo)
+start_event s [] e start next = absurd next
+start_event s (Exactly first ∷ todo) e start next = subst (λ (x : Event). FitsBefore x todo) (sym next) start.0
+start_event s (Leaves page ∷ todo) e start next = absurd start
+
+fits_stays : (e : Event) (todo : List Todo) → FitsBefore e todo → is_gone e ≡ false
+fits_stays (Gone page worn) todo fits = absurd fits
+fits_stays e todo fits = refl
+
+settled_is : (deltas : List DeltaValue) (s : FlatState) (h : ℕ) (owed : List ℕ) (e : Event) → is_gone e ≡ false → settled_with deltas s (Hart h) owed e ≡ Doing (later (todo_with deltas s (Hart h) e))
+settled_is deltas s h owed (Gone page worn) stays = absurd (cc)
+settled_is deltas s h owed e stays = refl
+
+-- an event of what is to be done is one of a hart's call
+hart_next : (h : ℕ) (s : FlatState) (todo : List Todo) (e : Event) → IsHartWork todo → IsServed h todo s → IsNext s todo e → is_hart_event e ≡ true
+hart_next h s [] e work k next = absurd next
+hart_next h s (Exactly first ∷ todo) e work k next = ap is_hart_event next ∙ fits_event first todo work.0
+hart_next h s (Leaves page ∷ todo) e work k next = elim (leaves_gone h (Leaves page ∷ todo) s page (data_in s.pages page) e refl k next) [
+  | inl is ↦ ap is_hart_event is
+  | inr is ↦ ap is_hart_event is.0
 ]
 
-is_there : (h : ℕ) (s : FlatState) (k : IsMoving h s) → is_inside s.inside (Hart h) ≡ true → k.held ≡ None
-is_there h s k i = elim k.side [
-  | inl e ↦ (
-      let is : is_inside s.inside (Hart h) ≡ false = subst (λ (o : Option Actor). is_inside o (Hart h) ≡ false) (sym e) refl in
-      absurd (cc))
-  | inr e ↦ e.1
+-- what a hart asks for begins where its call settles
+record Asking (deltas : List DeltaValue) (s : FlatState) (h : ℕ) : Type 0 where
+  hart : HartState
+  is : slice_get s.harts h ≡ Some hart
+  start : IsHartStart (todo_by deltas s h hart)
+
+asking : (deltas : List DeltaValue) (s : FlatState) (h : ℕ) → IsServed h [] s → Asking deltas s h
+asking deltas s h k =
+    let w = some_and (slice_get s.harts h) (IsTrying None) k.harts.1 in
+    record { hart = w.0; is = w.1; start = todo_start deltas s h w.0 w.2.still }
+
+begun : (deltas : List DeltaValue) (s : FlatState) (h : ℕ) (owed : List ℕ) (last : Option ℕ) (e : Event) (a : Asking deltas s h) → IsServed h [] s → GoesOn deltas s (Hart h) (Some (Settling owed last)) e → IsNext s (todo_by deltas s h a.hart) e
+begun deltas s h owed last e a k goes = elim goes [
+  | inl settles ↦ absurd (none_settles s owed last e (staying_free s.pages k.pages) settles)
+  | inr begins ↦ at_some (slice_get s.harts h) (λ (hart : HartState). IsNext s (todo_by deltas s h hart) e) a.hart a.is begins.1
 ]
 
-flat_behind : (h : ℕ) (m : Moment) (e : Event) → InUnit h m → Allows m (Hart h) e → StandsAtBuilt m (Hart h) e → IsBehind h e (flat_after m.deltas m.flat (Hart h) e)
-flat_behind h m e k allowed built = by_side (is_inside m.flat.inside (Hart h)) refl allowed
-  where
-    by_side : (b : Bool) → is_inside m.flat.inside (Hart h) ≡ b → MatchBool b (GoesOn m.deltas m.flat (Hart h) m.call e) (MayAct m.flat (Hart h) e) → IsBehind h e (flat_after m.deltas m.flat (Hart h) e)
-    by_side true i goes = inside m.deltas h m.flat e k.0 (is_there h m.flat k.0 i) (calm_goes m.deltas m.flat h m.call e k.0 k.1 goes)
-    by_side false i may = outside h m e k.0 (not_inside h m.flat k.0 i) may built
+asked_is : (deltas : List DeltaValue) (s : FlatState) (h : ℕ) (owed : List ℕ) (e : Event) (a : Asking deltas s h) → is_gone e ≡ false → settled_with deltas s (Hart h) owed e ≡ Doing (later (todo_by deltas s h a.hart))
+asked_is deltas s h owed e a stays =
+    settled_is deltas s h owed e stays ∙ ap (λ (o : Option HartState). Doing (later (unwrap_or (option_map (λ (hart : HartState). todo_by deltas s h hart) o) []))) a.is
 
-both_behind : (b : Bool) (A B C : Type 0) → MatchBool b A B → C → MatchBool b (A × C) (B × C)
-both_behind true A B C p c = (p, c)
-both_behind false A B C p c = (p, c)
+-- an entry inside
+goes_inside : (h : ℕ) (m : Moment) (e : Event) (call : Option Call) → m.call ≡ call → IsInside h m.flat call → GoesOn m.deltas m.flat (Hart h) call e → IsAlong h e (after m (Hart h) e)
+goes_inside h m e None is k goes = absurd k
+goes_inside h m e (Some (Settling owed last)) is k goes =
+    let a = asking m.deltas m.flat h k in
+    let next = begun m.deltas m.flat h owed last e a k goes in
+    let todo : List Todo = todo_by m.deltas m.flat h a.hart in
+    let work : IsHartWork todo = start_work todo a.start in
+    let fits : FitsBefore e (later todo) = start_event m.flat todo e a.start next in
+    let behind : call_behind m.deltas m.flat (Hart h) m.call e ≡ Some (Doing (later todo)) =
+    ap (λ (c : Option Call). call_behind m.deltas m.flat (Hart h) c e) is ∙ ap Some (asked_is m.deltas m.flat h owed e a (fits_stays e (later todo) fits)) in
+    inside h m e (later todo) (is_there h m.flat.inside k.inside) (serves m.deltas h m.flat todo e work (served_more h todo m.flat k) next, later_work todo work, fits_event e (later todo) fits, behind)
+goes_inside h m e (Some (Doing todo)) is k goes =
+    let behind : call_behind m.deltas m.flat (Hart h) m.call e ≡ Some (Doing (later todo)) = ap (λ (c : Option Call). call_behind m.deltas m.flat (Hart h) c e) is in
+    inside h m e (later todo) (is_there h m.flat.inside k.0.inside) (serves m.deltas h m.flat todo e k.1 k.0 goes, later_work todo k.1, hart_next h m.flat todo e k.1 k.0 goes, behind)
 
--- an entry of the unit: behind it the unit ended, or goes on; and it gives no try up
-abbrev pub IsAlong : ℕ → Event → Moment → Type 0
-IsAlong h e m = MatchBool (ends_unit e) (AtRest m) (InUnit h m)
+-- who is inside may go on with its call alone
+inside_is : (h : ℕ) (s : FlatState) (call : Option Call) → IsInside h s call → s.inside ≡ Some (Hart h)
+inside_is h s None k = absurd k
+inside_is h s (Some (Settling owed last)) k = k.inside
+inside_is h s (Some (Doing todo)) k = k.0.inside
 
-goes_along : (h : ℕ) (m : Moment) (e : Event) → InUnit h m → Allows m (Hart h) e → StandsAtBuilt m (Hart h) e → IsAlong h e (after m (Hart h) e)
-goes_along h m e k allowed built =
-    both_behind (ends_unit e) (IsRest (flat_after m.deltas m.flat (Hart h) e)) (IsMoving h (flat_after m.deltas m.flat (Hart h) e)) (IsCalmCall (call_after m (Hart h) e))
-    (flat_behind h m e k allowed built) (calm_after h m e k)
+goes : (h : ℕ) (m : Moment) (e : Event) → IsInside h m.flat m.call → Allows m (Hart h) e → GoesOn m.deltas m.flat (Hart h) m.call e
+goes h m e k allowed =
+    subst (λ (b : Bool). MatchBool b (GoesOn m.deltas m.flat (Hart h) m.call e) (MayAct m.flat (Hart h) e)) (is_there h m.flat.inside (inside_is h m.flat m.call k)) allowed
 
-pub along : (h : ℕ) (m : Moment) (entry : Entry) → entry.actor ≡ Hart h → InUnit h m → Allows m entry.actor entry.event → StandsAtBuilt m entry.actor entry.event → IsAlong h entry.event (after m entry.actor entry.event)
-along h m entry own k allowed built =
-    subst (λ (x : Actor). IsAlong h entry.event (after m x entry.event)) (sym own)
-    (goes_along h m entry.event k (subst (λ (x : Actor). Allows m x entry.event) own allowed) (subst (λ (x : Actor). StandsAtBuilt m x entry.event) own built))
+goes_along : (h : ℕ) (m : Moment) (e : Event) → InUnit h m → Allows m (Hart h) e → IsAlong h e (after m (Hart h) e)
+goes_along h m e k allowed = elim k [
+  | inl out ↦ outside h m e out.0 out.1 (may_act h m e out.0 allowed)
+  | inr there ↦ goes_inside h m e m.call refl there (goes h m e there allowed)
+]
 
-whole_event : (h : ℕ) (m : Moment) (e : Event) → InUnit h m → Allows m (Hart h) e → IsWhole e
-whole_event h m e k allowed = by_side (is_inside m.flat.inside (Hart h)) refl allowed
-  where
-    by_side : (b : Bool) → is_inside m.flat.inside (Hart h) ≡ b → MatchBool b (GoesOn m.deltas m.flat (Hart h) m.call e) (MayAct m.flat (Hart h) e) → IsWhole e
-    by_side true i goes = whole_inside e (calm_goes m.deltas m.flat h m.call e k.0 k.1 goes)
-    by_side false i may = whole_outside h m.flat e k.0 (not_inside h m.flat k.0 i) may
+pub along : (h : ℕ) (m : Moment) (entry : Entry) → entry.actor ≡ Hart h → InUnit h m → Allows m entry.actor entry.event → IsAlong h entry.event (after m entry.actor entry.event)
+along h m entry own k allowed =
+    subst (λ (x : Actor). IsAlong h entry.event (after m x entry.event)) (sym own) (goes_along h m entry.event k (subst (λ (x : Actor). Allows m x entry.event) own allowed))
+
+-- it gives no try up
+whole_event : (e : Event) → is_hart_event e ≡ true → IsWhole e
+whole_event (Again page) is gives = cc
+whole_event (Wait on) is gives = cc
+whole_event e is gives = gives
+
+whole_inside : (h : ℕ) (deltas : List DeltaValue) (s : FlatState) (call : Option Call) (e : Event) → IsInside h s call → GoesOn deltas s (Hart h) call e → IsWhole e
+whole_inside h deltas s None e k goes = absurd k
+whole_inside h deltas s (Some (Settling owed last)) e k goes =
+    let a = asking deltas s h k in
+    let todo : List Todo = todo_by deltas s h a.hart in
+    whole_event e (fits_event e (later todo) (start_event s todo e a.start (begun deltas s h owed last e a k goes)))
+whole_inside h deltas s (Some (Doing todo)) e k goes = whole_event e (hart_next h s todo e k.1 k.0 goes)
+
+whole_along : (h : ℕ) (m : Moment) (e : Event) → InUnit h m → Allows m (Hart h) e → IsWhole e
+whole_along h m e k allowed = elim k [
+  | inl out ↦ whole_outside h m.flat e out.0 (may_act h m e out.0 allowed)
+  | inr there ↦ whole_inside h m.deltas m.flat m.call e there (goes h m e there allowed)
+]
 
 pub whole_entry : (h : ℕ) (m : Moment) (entry : Entry) → entry.actor ≡ Hart h → InUnit h m → Allows m entry.actor entry.event → IsWhole entry.event
-whole_entry h m entry own k allowed = whole_event h m entry.event k (subst (λ (x : Actor). Allows m x entry.event) own allowed)
+whole_entry h m entry own k allowed = whole_along h m entry.event k (subst (λ (x : Actor). Allows m x entry.event) own allowed)
 
--- the hart is undisturbed, and its next event is determined
-no_leaves : (s : FlatState) (todo : List Todo) → AllByRecursion IsCalm todo → LeavesAreGoing s (Some (Doing todo))
-no_leaves s [] all = tt
-no_leaves s (Exactly event ∷ todo) all = (tt, no_leaves s todo all.1)
-no_leaves s (Leaves page ∷ todo) all = absurd all.0
+-- its next event is determined: outside the hart is undisturbed, and inside it is what is to be done
+same_outside : HartsAreDetermined → (h : ℕ) (m : Moment) (one other : Event) → IsMoving h m.flat → m.call ≡ None → Allows m (Hart h) one → Allows m (Hart h) other → one ≡ other
+same_outside law h m one other k none a b =
+    let w = some_and (slice_get m.flat.harts h) (IsTrying k.held) k.harts.1 in
+    let undisturbed : OfHart m.flat h (IsUndisturbed m.flat h) = and_some (slice_get m.flat.harts h) (IsUndisturbed m.flat h) w.0 w.1 (inr (w.2.still, own h m.flat k)) in
+    let leaves : LeavesAreGoing m.flat m.call = subst (LeavesAreGoing m.flat) (sym none) tt in
+    law m h one other leaves undisturbed a b
 
-no_leaves_in : (s : FlatState) (call : Option Call) → IsCalmCall call → LeavesAreGoing s call
-no_leaves_in s None c = tt
-no_leaves_in s (Some (Settling owed last)) c = tt
-no_leaves_in s (Some (Doing todo)) c = no_leaves s todo c
+same_inside : (h : ℕ) (deltas : List DeltaValue) (s : FlatState) (call : Option Call) (one other : Event) → IsFew s → IsInside h s call → GoesOn deltas s (Hart h) call one → GoesOn deltas s (Hart h) call other → one ≡ other
+same_inside h deltas s None one other few k a b = absurd k
+same_inside h deltas s (Some (Settling owed last)) one other few k a b =
+    let asks = asking deltas s h k in
+    next_same s (todo_by deltas s h asks.hart) one other few (begun deltas s h owed last one asks k a) (begun deltas s h owed last other asks k b)
+same_inside h deltas s (Some (Doing todo)) one other few k a b = next_same s todo one other few a b
 
-pub determined : HartsAreDetermined → (h : ℕ) (m : Moment) (one other : Event) → InUnit h m → Allows m (Hart h) one → Allows m (Hart h) other → one ≡ other
-determined law h m one other k a b =
-    let w = some_and (slice_get m.flat.harts h) (IsTrying k.0.held) k.0.harts.1 in
-    let undisturbed : OfHart m.flat h (IsUndisturbed m.flat h) = and_some (slice_get m.flat.harts h) (IsUndisturbed m.flat h) w.0 w.1 (inr (w.2.calm.0, own h m.flat k.0)) in
-    law m h one other (no_leaves_in m.flat m.call k.1) undisturbed a b
+pub determined : HartsAreDetermined → (h : ℕ) (m : Moment) (one other : Event) → IsFew m.flat → InUnit h m → Allows m (Hart h) one → Allows m (Hart h) other → one ≡ other
+determined law h m one other few k a b = elim k [
+  | inl out ↦ same_outside law h m one other out.0 out.1 a b
+  | inr there ↦ same_inside h m.deltas m.flat m.call one other few there (goes h m one there a) (goes h m other there b)
+]
 
 -- who acts outside is there
 may_there : (s : FlatState) (h : ℕ) (e : Event) → MayAct s (Hart h) e → (hart : HartState) × (slice_get s.harts h ≡ Some hart)
@@ -250,17 +297,18 @@ may_there s h e p = absurd p
 
 -- a unit begins between two units
 still_trying : (hart : HartState) → IsStill hart → IsTrying None hart
-still_trying hart still = let none = still.0 in record { calm = (still.1, rw none (λ u. u)); runs = inl still.0; keeps = inl refl }
+still_trying hart still = record { still = still.1; runs = inl still.0; keeps = inl refl }
 
 pub begins : (h : ℕ) (m : Moment) (e : Event) → AtRest m → Allows m (Hart h) e → InUnit h m
 begins h m e rest allowed =
     let may : MayAct m.flat (Hart h) e = subst (λ (o : Option Actor). MatchBool (is_inside o (Hart h)) (GoesOn m.deltas m.flat (Hart h) m.call e) (MayAct m.flat (Hart h) e)) rest.0.inside allowed in
-    let w = may_there m.flat h e may in (
+    let w = may_there m.flat h e may in
+    inl (
       record {
         held = None;
         harts = (all_but IsStill h m.flat.harts rest.0.harts, and_some (slice_get m.flat.harts h) (IsTrying None) w.0 w.1 (still_trying w.0 (all_get IsStill m.flat.harts h w.0 rest.0.harts w.1)));
         pages = free_kept h m.flat.pages rest.0.pages;
-        side = inl rest.0.inside;
+        outside = rest.0.inside;
       },
       rest.1,
     )

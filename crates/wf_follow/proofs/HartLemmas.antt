@@ -1,7 +1,7 @@
--- Harts and pages of which one changes.
-use Rattle.std.proofs.Common.{◌≡◌, ℕ, zero, suc, List, [], ◌∷◌, Some, Bool, true, false, refl, subst, ap, ◌∙◌}
+-- Harts and pages of which one changes, or some go.
+use Rattle.std.proofs.Common.{◌≡◌, ℕ, zero, suc, List, [], ◌∷◌, Some, Bool, true, false, map, refl, subst, ap, ◌∙◌}
 use Rattle.std.specs.Prelude.{slice_get, ◌==◌, if◌then◌else◌}
-use Rattle.std.specs.List.{AllByRecursion}
+use Rattle.std.specs.List.{AllByRecursion, filter}
 use Rattle.wf_flat.specs.State.{PageState}
 use Rattle.wf_flat.specs.Lists.{changed_at, changed_by}
 use Rattle.wf_flat.specs.Serving.{AllBut}
@@ -57,3 +57,17 @@ pages_changed P Q f n (page ∷ pages) all is not_so = (by_test (page.number == 
 pub all_more : {A : Type 0} (P Q : A → Type 0) → ((x : A) → P x → Q x) → (xs : List A) → AllByRecursion P xs → AllByRecursion Q xs
 all_more P Q more [] all = tt
 all_more P Q more (x ∷ xs) all = (more x all.0, all_more P Q more xs all.1)
+
+-- of those that are kept
+pub all_filter : {A : Type 0} (keeps : A → Bool) (P Q : A → Type 0) → ((x : A) → keeps x ≡ true → P x → Q x) → (xs : List A) → AllByRecursion P xs → AllByRecursion Q (filter keeps xs)
+all_filter keeps P Q more [] all = tt
+all_filter {A = A} keeps P Q more (x ∷ xs) all = by_test (keeps x) refl (all_filter keeps P Q more xs all.1)
+  where
+    by_test : (b : Bool) → keeps x ≡ b → AllByRecursion Q (filter keeps xs) → AllByRecursion Q (if b then x ∷ filter keeps xs else filter keeps xs)
+    by_test true e rest = (more x e all.0, rest)
+    by_test false e rest = rest
+
+-- of each that is made of one
+pub all_map : {A : Type 0} (P Q : A → Type 0) (f : A → A) → ((x : A) → P x → Q (f x)) → (xs : List A) → AllByRecursion P xs → AllByRecursion Q (map f xs)
+all_map P Q f more [] all = tt
+all_map P Q f more (x ∷ xs) all = (more x all.0, all_map P Q f more xs all.1)

@@ -4,12 +4,16 @@ use Rattle.std.specs.Prelude.{◌==◌, if◌then◌else◌}
 use Rattle.std.specs.List.{AllByRecursion}
 use Rattle.std.proofs.lemmas.Bool.Decides.{nat_tests}
 use Rattle.wf_flat.specs.declared.state.Stage.TheVariants.{Here}
-use Rattle.wf_flat.specs.State.{PageState}
+use Rattle.wf_flat.specs.declared.event.Event.{Event}
+use Rattle.wf_flat.specs.State.{FlatState, PageState}
 use Rattle.wf_flat.specs.Lists.{changed_by}
 use Rattle.wf_flat.specs.Memory.{data_in}
 use Rattle.wf_flat.specs.Accesses.{holder_is, holds_page}
 use Rattle.wf_flat.specs.Changes.{given_back, put_with, taken_by}
+use Rattle.wf_flat.proofs.ListLemmas.{some_and}
+use Rattle.wf_legal.specs.Calls.{Settles, may_go}
 use Rattle.wf_next.specs.Determined.{IsOwn}
+use Rattle.wf_next.proofs.QuietLemmas.{found_all}
 use Rattle.wf_follow.proofs.HartLemmas.{all_more, pages_changed}
 
 -- the page is Here, and nobody holds it
@@ -95,3 +99,12 @@ unheld h n held pages most lacks all = elim most [
   | inl e ↦ kept_free h held pages e all
   | inr e ↦ no_page h n pages lacks (subst (λ (o : Option ℕ). AllByRecursion (IsKept h o) pages) e all)
 ]
+
+-- where no page is leaving, none goes in a call that settles
+pub none_settles : (s : FlatState) (owed : List ℕ) (last : Option ℕ) (e : Event) → AllByRecursion IsFree s.pages → Settles s owed last e → ⊥
+none_settles s owed last e free d =
+    let w = some_and (data_in s.pages d.page) _ d.may in
+    let here = (found_all IsFree s.pages d.page w.0 free w.1).0 in
+    let stays : may_go w.0 ≡ false = rw here refl in
+    let goes = w.2 in
+    cc

@@ -2,7 +2,7 @@
 use Rattle.std.proofs.Common.{◌++◌, ◌+◌, ℕ, zero, suc, List, [], ◌∷◌, map, refl}
 use Rattle.std.specs.List.{AllByRecursion}
 use Rattle.wf_outside.specs.Pages.{DataPageValue, LimitsValue}
-use Rattle.wf_outside.specs.Images.{ImageValue}
+use Rattle.wf_outside.specs.Images.{DeltaValue, ImageValue}
 use Rattle.wf_flat.specs.State.{PageState}
 use Rattle.wf_flat.specs.Lists.{sorted_by}
 use Rattle.wf_flat.specs.Boot.{boot_hart, boot_harts, boot_pages, fresh_page, numbered_from, stack_of, stacks_of}
@@ -37,5 +37,5 @@ unfolding boot_harts
 harts_still entry zero = tt
 harts_still entry (suc n) = all_append IsStill (boot_harts entry n) (boot_hart entry n ∷ []) (harts_still entry n) ((refl, refl), tt)
 
-pub start_rests : (image : ImageValue) (harts : ℕ) (limits : LimitsValue) → AtRest (start_of image harts limits)
-start_rests image harts limits = (record { harts = harts_still image.entry harts; pages = boot_free image harts; inside = refl }, tt)
+pub start_rests : (deltas : List DeltaValue) (image : ImageValue) (harts : ℕ) (limits : LimitsValue) → AtRest (start_of deltas image harts limits)
+start_rests deltas image harts limits = (record { harts = harts_still image.entry harts; pages = boot_free image harts; inside = refl }, refl)

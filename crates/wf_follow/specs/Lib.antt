@@ -1,4 +1,3 @@
-pub mod Built
 pub mod Places
 pub mod Units
 pub mod Requests

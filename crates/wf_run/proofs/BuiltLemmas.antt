@@ -2,15 +2,14 @@
 use Rattle.std.proofs.Common.{◌≡◌, ◌<◌, ◌≤◌, ℕ, zero, suc, List, [], ◌∷◌, Bool, true, false, cond, Option, Some, None, Bor, length, get_or, refl, sym, ap, ◌∙◌, inl, inr, arith}
 use Rattle.std.specs.Prelude.{IfSome, MatchOption, nat_lt, not, position, slice_get}
 use Rattle.std.specs.Option.{option_copied}
-use Rattle.std.specs.List.{AllByRecursion, HoldsAt, position_or_len}
+use Rattle.std.specs.List.{HoldsAt, position_or_len}
 use Rattle.std.proofs.lemmas.Bool.Decides.{nat_tests}
 use Rattle.std.proofs.lemmas.List.Quantifiers.{position-Some}
 use Rattle.std.proofs.lemmas.Option.{slice_get_past, slice_get_read}
 use Rattle.std.proofs.lemmas.List.Sums.{fails_before_first}
 use Rattle.wf_text.proofs.NumberLemmas.{chosen}
 use Rattle.wf_script.specs.declared.command.Command.{Command}
-use Rattle.wf_script.specs.declared.command.Command.TheVariants.{Step, Tick, Run, Patch, Create, Delete, Tables, Regs, Mem}
-use Rattle.wf_script.specs.Commands.{IsCommand}
+use Rattle.wf_script.specs.declared.command.Command.TheVariants.{Run}
 use Rattle.wf_follow.specs.Unbuilt.{AreBuilt, first_unbuilt, is_built_command}
 
 not_true : (b : Bool) → not b ≡ true → b ≡ false
@@ -77,19 +76,3 @@ all_built (command ∷ commands) (line ∷ lines) same none =
       | inl p ↦ (p.0, all_built commands lines (omega arith) p.1)
       | inr p ↦ let wrong : Some line ≡ None = p.1 in absurd cc
     ]
-
--- a command that is built names not_built patch
-patchless : (harts patches : ℕ) (command : Command) → is_built_command command ≡ true → IsCommand harts patches command → IsCommand harts 0 command
-patchless harts patches (Step h n) built is = is
-patchless harts patches (Run n) built is = is
-patchless harts patches (Regs h) built is = is
-patchless harts patches (Mem va n) built is = is
-patchless harts patches (Tick actor n) built is = is
-patchless harts patches (Patch index begin) built is = absurd cc
-patchless harts patches (Create generation) built is = is
-patchless harts patches (Delete generation) built is = is
-patchless harts patches (Tables generation) built is = is
-
-pub all_patchless : (harts patches : ℕ) (commands : List Command) → AreBuilt commands → AllByRecursion (IsCommand harts patches) commands → AllByRecursion (IsCommand harts 0) commands
-all_patchless harts patches [] built each = tt
-all_patchless harts patches (command ∷ commands) built each = (patchless harts patches command built.0 each.0, all_patchless harts patches commands built.1 each.1)

@@ -1,116 +1,136 @@
 -- The stages of a run, one after another, and what its files call for.
-use Rattle.std.proofs.Common.{◌≡◌, ◌<◌, ◌≤◌, ◌⊎◌, ℕ, List, Bool, cond, Option, Some, None, Result, Ok, Err, refl, sym, ap, subst, ◌∙◌, inl, inr, arith}
-use Rattle.std.specs.Prelude.{IfErr, IfOk, IfSome, OnOk, Vec}
-use Rattle.std.specs.declared.alloc.Global.{Global}
-use Rattle.wf_outside.specs.Files.{File, HasRisen, first_bytes}
-use Rattle.wf_outside.specs.Images.{ImageValue}
+use Rattle.std.proofs.Common.{◌≡◌, ◌<◌, ◌≤◌, ◌⊎◌, ℕ, List, Bool, true, false, cond, Option, Some, None, Result, Ok, Err, refl, sym, ap, subst, ◌∙◌, inl, inr}
+use Rattle.std.specs.Prelude.{IfOk, IfSome, OnOk}
+use Rattle.wf_outside.specs.Files.{File, first_bytes}
+use Rattle.wf_outside.specs.Images.{DeltaValue, ImageValue}
 use Rattle.wf_flat.proofs.ListLemmas.{if_some_more}
 use Rattle.wf_script.specs.Commands.{ScriptValue}
 use Rattle.wf_status.specs.declared.status.Status.{Status}
-use Rattle.wf_status.specs.declared.status.Status.TheVariants.{Limit, Memory, Shelf, Unbuilt}
+use Rattle.wf_status.specs.declared.status.Status.TheVariants.{Limit, Memory}
 use Rattle.wf_status.specs.declared.status.LimitKind.TheVariants as limits
-use Rattle.wf_status.specs.declared.status.Unbuilt.TheVariants as unbuilt
 use Rattle.wf_fetch.specs.Fetching.{IsImageStatus}
 use Rattle.wf_fetch.specs.Held.{HoldsBytes}
 use Rattle.wf_fetch.specs.Loaded.{loaded}
-use Rattle.wf_follow.specs.Runs.{IsRun}
+use Rattle.wf_fetch.specs.Stages.{◌>>=◌, IsReadFault}
+use Rattle.wf_patches.specs.Needed.{held_in}
+use Rattle.wf_patches.specs.Stages.{patches_stage}
 use Rattle.wf_follow.specs.Unbuilt.{AreBuilt}
-use Rattle.wf_words.specs.declared.sizes.Sizes.{Sizes}
-use Rattle.wf_run.specs.Stages.{◌>>=◌, files_stage, frames_stage, frames_used, image_stage, script_stage}
-use Rattle.wf_run.specs.Answers.{CallsFor, HoldsReport, IsReadFault, PassesImage, StagesCallFor, start_for}
-use Rattle.wf_run.specs.Following.{IsRunStatus}
-use Rattle.wf_run.proofs.StageLemmas.{bind_ok, given, image_cause, image_found, less, not_less, refused, stage_built}
+use Rattle.wf_driver.specs.Machines.{MachineValue}
+use Rattle.wf_usage.specs.declared.sizes.Sizes.{Sizes}
+use Rattle.wf_fetch.specs.Stages.{image_stage}
+use Rattle.wf_run.specs.Stages.{RunFilesValue, files_stage, frames_stage, frames_used, held_stage, script_stage}
+use Rattle.wf_run.specs.Answers.{CallsFor, HasRun, HoldsRun, stages_answer}
+use Rattle.wf_run.specs.Following.{IsStartStatus}
+use Rattle.wf_fetch.proofs.StageLemmas.{bind_ok, given, image_cause, image_found, less, not_less, refused}
+use Rattle.wf_run.proofs.StageLemmas.{stage_built}
 
 -- ---- the stages behind each
 
-abbrev Files : Type 0
-Files = ImageValue × ScriptValue
+abbrev pub Held : Type 0
+Held = List ℕ → Option (List ℕ)
 
-abbrev with_start : ScriptValue → ImageValue → Result Files Status
-with_start script start = Ok (start, script)
+abbrev pub files_of : ImageValue → ScriptValue → List DeltaValue → RunFilesValue
+files_of image script deltas = record { image = image; script = script; deltas = deltas }
 
-abbrev after_script : Sizes → ImageValue → ScriptValue → Result Files Status
-after_script sizes image script = frames_stage sizes image >>= with_start script
+abbrev with_deltas : ImageValue → ScriptValue → List DeltaValue → Result RunFilesValue Status
+with_deltas image script deltas = Ok (record { image = image; script = script; deltas = deltas })
 
-abbrev after_image : Sizes → Option (List ℕ) → ImageValue → Result Files Status
-after_image sizes script_file image = script_stage sizes.harts script_file >>= after_script sizes image
+abbrev after_script : Held → ImageValue → ScriptValue → Result RunFilesValue Status
+after_script held image script = patches_stage held image script.patches >>= with_deltas image script
 
-frames_fit : (sizes : Sizes) (image : ImageValue) → frames_used sizes image ≤ sizes.frames → frames_stage sizes image ≡ Ok image
-frames_fit sizes image h =
-    ap (λ (b : Bool). cond b (refused {A = ImageValue} (Limit limits.Frames (frames_used sizes image) sizes.frames)) (given image)) (not_less sizes.frames (frames_used sizes image) h)
+abbrev after_image : Sizes → Held → List ℕ → ImageValue → Result RunFilesValue Status
+after_image sizes held script_name image = script_stage sizes.harts (held script_name) >>= after_script held image
 
-frames_lack : (sizes : Sizes) (image : ImageValue) → sizes.frames < frames_used sizes image → frames_stage sizes image ≡ Err (Limit limits.Frames (frames_used sizes image) sizes.frames)
-frames_lack sizes image h =
-    ap (λ (b : Bool). cond b (refused {A = ImageValue} (Limit limits.Frames (frames_used sizes image) sizes.frames)) (given image)) (less sizes.frames (frames_used sizes image) h)
+image_fails : (sizes : Sizes) (held : Held) (image_name script_name : List ℕ) (status : Status) → image_stage (held image_name) ≡ Err status
+    → held_stage sizes held image_name script_name ≡ Err status
+image_fails sizes held image_name script_name status e = ap (λ (r : Result ImageValue Status). r >>= after_image sizes held script_name) e
 
-image_fails : (sizes : Sizes) (image_file script_file : Option (List ℕ)) (status : Status) → image_stage image_file ≡ Err status → files_stage sizes image_file script_file ≡ Err status
-image_fails sizes image_file script_file status e = ap (λ (r : Result ImageValue Status). r >>= after_image sizes script_file) e
+script_fails : (sizes : Sizes) (held : Held) (image_name script_name : List ℕ) (image : ImageValue) (status : Status) → image_stage (held image_name) ≡ Ok image
+    → script_stage sizes.harts (held script_name) ≡ Err status → held_stage sizes held image_name script_name ≡ Err status
+script_fails sizes held image_name script_name image status a e =
+    ap (λ (r : Result ImageValue Status). r >>= after_image sizes held script_name) a ∙ ap (λ (r : Result ScriptValue Status). r >>= after_script held image) e
 
-script_fails : (sizes : Sizes) (image_file script_file : Option (List ℕ)) (image : ImageValue) (status : Status) → image_stage image_file ≡ Ok image
-    → script_stage sizes.harts script_file ≡ Err status → files_stage sizes image_file script_file ≡ Err status
-script_fails sizes image_file script_file image status a e =
-    ap (λ (r : Result ImageValue Status). r >>= after_image sizes script_file) a ∙ ap (λ (r : Result ScriptValue Status). r >>= after_script sizes image) e
+patches_after : (sizes : Sizes) (held : Held) (image_name script_name : List ℕ) (image : ImageValue) (script : ScriptValue) → image_stage (held image_name) ≡ Ok image
+    → script_stage sizes.harts (held script_name) ≡ Ok script → held_stage sizes held image_name script_name ≡ after_script held image script
+patches_after sizes held image_name script_name image script a b =
+    ap (λ (r : Result ImageValue Status). r >>= after_image sizes held script_name) a ∙ ap (λ (r : Result ScriptValue Status). r >>= after_script held image) b
 
-frames_after : (sizes : Sizes) (image_file script_file : Option (List ℕ)) (image : ImageValue) (script : ScriptValue) → image_stage image_file ≡ Ok image
-    → script_stage sizes.harts script_file ≡ Ok script → files_stage sizes image_file script_file ≡ after_script sizes image script
-frames_after sizes image_file script_file image script a b =
-    ap (λ (r : Result ImageValue Status). r >>= after_image sizes script_file) a ∙ ap (λ (r : Result ScriptValue Status). r >>= after_script sizes image) b
+patches_fail : (sizes : Sizes) (held : Held) (image_name script_name : List ℕ) (image : ImageValue) (script : ScriptValue) (status : Status) → image_stage (held image_name) ≡ Ok image
+    → script_stage sizes.harts (held script_name) ≡ Ok script → patches_stage held image script.patches ≡ Err status → held_stage sizes held image_name script_name ≡ Err status
+patches_fail sizes held image_name script_name image script status a b e =
+    patches_after sizes held image_name script_name image script a b ∙ ap (λ (r : Result (List DeltaValue) Status). r >>= with_deltas image script) e
 
-frames_fail : (sizes : Sizes) (image_file script_file : Option (List ℕ)) (image : ImageValue) (script : ScriptValue) (status : Status) → image_stage image_file ≡ Ok image
-    → script_stage sizes.harts script_file ≡ Ok script → frames_stage sizes image ≡ Err status → files_stage sizes image_file script_file ≡ Err status
-frames_fail sizes image_file script_file image script status a b e =
-    frames_after sizes image_file script_file image script a b ∙ ap (λ (r : Result ImageValue Status). r >>= with_start script) e
+files_found : (sizes : Sizes) (held : Held) (image_name script_name : List ℕ) (image : ImageValue) (script : ScriptValue) (deltas : List DeltaValue) → image_stage (held image_name) ≡ Ok image
+    → script_stage sizes.harts (held script_name) ≡ Ok script → patches_stage held image script.patches ≡ Ok deltas → held_stage sizes held image_name script_name ≡ Ok (files_of image script deltas)
+files_found sizes held image_name script_name image script deltas a b e =
+    patches_after sizes held image_name script_name image script a b ∙ ap (λ (r : Result (List DeltaValue) Status). r >>= with_deltas image script) e
 
-files_pass : (sizes : Sizes) (image_file script_file : Option (List ℕ)) (image : ImageValue) (script : ScriptValue) → image_stage image_file ≡ Ok image
-    → script_stage sizes.harts script_file ≡ Ok script → frames_used sizes image ≤ sizes.frames → files_stage sizes image_file script_file ≡ Ok (image, script)
-files_pass sizes image_file script_file image script a b fits =
-    frames_after sizes image_file script_file image script a b ∙ ap (λ (r : Result ImageValue Status). r >>= with_start script) (frames_fit sizes image fits)
+held_fails : (sizes : Sizes) (held : Held) (image_name script_name : List ℕ) (status : Status) → held_stage sizes held image_name script_name ≡ Err status
+    → files_stage sizes held image_name script_name ≡ Err status
+held_fails sizes held image_name script_name status e = ap (λ (r : Result RunFilesValue Status). r >>= frames_stage sizes) e
+
+frames_fit : (sizes : Sizes) (files : RunFilesValue) → frames_used sizes files.image ≤ sizes.frames → frames_stage sizes files ≡ Ok files
+frames_fit sizes files h =
+    ap (λ (b : Bool). cond b (refused {A = RunFilesValue} (Limit limits.Frames (frames_used sizes files.image) sizes.frames)) (given files)) (not_less sizes.frames (frames_used sizes files.image) h)
+
+frames_lack : (sizes : Sizes) (files : RunFilesValue) → sizes.frames < frames_used sizes files.image
+    → frames_stage sizes files ≡ Err (Limit limits.Frames (frames_used sizes files.image) sizes.frames)
+frames_lack sizes files h =
+    ap (λ (b : Bool). cond b (refused {A = RunFilesValue} (Limit limits.Frames (frames_used sizes files.image) sizes.frames)) (given files)) (less sizes.frames (frames_used sizes files.image) h)
+
+frames_told : (sizes : Sizes) (files : RunFilesValue) (number most : ℕ) → (number ≡ frames_used sizes files.image) × (most ≡ sizes.frames) × (most < number)
+    → frames_stage sizes files ≡ Err (Limit limits.Frames number most)
+frames_told sizes files number most h =
+    let more : sizes.frames < number = subst (λ (k : ℕ). k < number) h.1 h.2 in
+    frames_lack sizes files (subst (λ (k : ℕ). sizes.frames < k) h.0 more)
+    ∙ ap (λ (n : ℕ). refused {A = RunFilesValue} (Limit limits.Frames n sizes.frames)) (sym h.0)
+    ∙ ap (λ (m : ℕ). refused {A = RunFilesValue} (Limit limits.Frames number m)) (sym h.1)
+
+files_after : (sizes : Sizes) (held : Held) (image_name script_name : List ℕ) (files : RunFilesValue) → held_stage sizes held image_name script_name ≡ Ok files
+    → files_stage sizes held image_name script_name ≡ frames_stage sizes files
+files_after sizes held image_name script_name files e = ap (λ (r : Result RunFilesValue Status). r >>= frames_stage sizes) e
+
+files_pass : (sizes : Sizes) (held : Held) (image_name script_name : List ℕ) (files : RunFilesValue) → held_stage sizes held image_name script_name ≡ Ok files
+    → frames_used sizes files.image ≤ sizes.frames → files_stage sizes held image_name script_name ≡ Ok files
+files_pass sizes held image_name script_name files e fits = files_after sizes held image_name script_name files e ∙ frames_fit sizes files fits
 
 -- the commands of files that pass are built
-pub files_built : (sizes : Sizes) (image_file script_file : Option (List ℕ)) (files : ImageValue × ScriptValue) → files_stage sizes image_file script_file ≡ Ok files → AreBuilt files.1.commands
-files_built sizes image_file script_file files e =
-    let a = bind_ok (image_stage image_file) (after_image sizes script_file) files e in
-    let b = bind_ok (script_stage sizes.harts script_file) (after_script sizes a.0) files a.2 in
-    let c = bind_ok (frames_stage sizes a.0) (with_start b.0) files b.2 in
-    let same : with_start b.0 c.0 ≡ given files = c.2 in
-    let script : b.0 ≡ files.1 = let pair : (c.0, b.0) ≡ files = cc in ap (λ (f : Files). f.1) pair in
-    subst (λ (s : ScriptValue). AreBuilt s.commands) script (stage_built sizes.harts script_file b.0 b.1)
+frames_same : (b : Bool) (status : Status) (files made : RunFilesValue) → cond b (refused {A = RunFilesValue} status) (given files) ≡ Ok made → files ≡ made
+frames_same true status files made e = absurd cc
+frames_same false status files made e = cc
+
+pub files_built : (sizes : Sizes) (held : Held) (image_name script_name : List ℕ) (files : RunFilesValue) → files_stage sizes held image_name script_name ≡ Ok files → AreBuilt files.script.commands
+files_built sizes held image_name script_name files e =
+    let f = bind_ok (held_stage sizes held image_name script_name) (frames_stage sizes) files e in
+    let same : f.0 ≡ files = frames_same _ _ f.0 files f.2 in
+    let a = bind_ok (image_stage (held image_name)) (after_image sizes held script_name) f.0 f.1 in
+    let b = bind_ok (script_stage sizes.harts (held script_name)) (after_script held a.0) f.0 a.2 in
+    let c = bind_ok (patches_stage held a.0 b.0.patches) (with_deltas a.0 b.0) f.0 b.2 in
+    let made : given (files_of a.0 b.0 c.0) ≡ given f.0 = c.2 in
+    let pair : files_of a.0 b.0 c.0 ≡ f.0 = cc in
+    let script : b.0 ≡ files.script = ap (λ (r : RunFilesValue). r.script) (pair ∙ same) in
+    subst (λ (s : ScriptValue). AreBuilt s.commands) script (stage_built sizes.harts (held script_name) b.0 b.1)
 
 -- ---- what the files call for
 
-calls_for : (sizes : Sizes) (image_file script_file : Option (List ℕ)) (status : Status) → files_stage sizes image_file script_file ≡ Err status → CallsFor sizes image_file script_file status
-calls_for sizes image_file script_file status e = subst (λ (r : Result Files Status). StagesCallFor sizes r status) (sym e) refl
+pub calls_for : (sizes : Sizes) (held : Held) (image_name script_name : List ℕ) (status : Status) → files_stage sizes held image_name script_name ≡ Err status
+    → CallsFor sizes held image_name script_name status
+calls_for sizes held image_name script_name status e = sym (ap stages_answer e)
 
-image_calls : (sizes : Sizes) (image_file script_file : Option (List ℕ)) (status : Status) → IsImageStatus image_file status → IsReadFault status ⊎ CallsFor sizes image_file script_file status
-image_calls sizes image_file script_file status h = elim (image_cause image_file status h) [
+held_calls : (sizes : Sizes) (held : Held) (image_name script_name : List ℕ) (status : Status)
+    → IsReadFault status ⊎ (held_stage sizes held image_name script_name ≡ Err status) → IsReadFault status ⊎ CallsFor sizes held image_name script_name status
+held_calls sizes held image_name script_name status h = elim h [
   | inl fault ↦ inl fault
-  | inr e ↦ inr (calls_for sizes image_file script_file status (image_fails sizes image_file script_file status e))
+  | inr e ↦ inr (calls_for sizes held image_name script_name status (held_fails sizes held image_name script_name status e))
 ]
 
-script_calls : (sizes : Sizes) (image_file script_file : Option (List ℕ)) (image : ImageValue) (status : Status) → image_stage image_file ≡ Ok image
-    → IsReadFault status ⊎ (script_stage sizes.harts script_file ≡ Err status) → IsReadFault status ⊎ CallsFor sizes image_file script_file status
-script_calls sizes image_file script_file image status a h = elim h [
-  | inl fault ↦ inl fault
-  | inr e ↦ inr (calls_for sizes image_file script_file status (script_fails sizes image_file script_file image status a e))
-]
-
-frames_told : (sizes : Sizes) (image : ImageValue) (number most : ℕ) → (number ≡ frames_used sizes image) × (most ≡ sizes.frames) × (most < number)
-    → frames_stage sizes image ≡ Err (Limit limits.Frames number most)
-frames_told sizes image number most h =
-    let more : sizes.frames < number = subst (λ (k : ℕ). k < number) h.1 h.2 in
-    frames_lack sizes image (subst (λ (k : ℕ). sizes.frames < k) h.0 more)
-    ∙ ap (λ (n : ℕ). refused {A = ImageValue} (Limit limits.Frames n sizes.frames)) (sym h.0)
-    ∙ ap (λ (m : ℕ). refused {A = ImageValue} (Limit limits.Frames number m)) (sym h.1)
-
-run_calls : (sizes : Sizes) (image_file script_file : Option (List ℕ)) (image : ImageValue) (script : ScriptValue) (status : Status) → image_stage image_file ≡ Ok image
-    → script_stage sizes.harts script_file ≡ Ok script → IsRunStatus sizes image script status → IsReadFault status ⊎ CallsFor sizes image_file script_file status
-run_calls sizes image_file script_file image script Memory a b h = inl (inr refl)
-run_calls sizes image_file script_file image script (Limit limits.Frames number most) a b h =
-    inr (calls_for sizes image_file script_file (Limit limits.Frames number most)
-    (frames_fail sizes image_file script_file image script (Limit limits.Frames number most) a b (frames_told sizes image number most h)))
-run_calls sizes image_file script_file image script (Unbuilt (unbuilt.Step pc)) a b h =
-    inr (subst (λ (r : Result Files Status). StagesCallFor sizes r (Unbuilt (unbuilt.Step pc))) (sym (files_pass sizes image_file script_file image script a b h.0)) h.1)
-run_calls sizes image_file script_file image script other a b h = absurd h
+start_calls : (sizes : Sizes) (held : Held) (image_name script_name : List ℕ) (files : RunFilesValue) (status : Status) → held_stage sizes held image_name script_name ≡ Ok files
+    → IsStartStatus sizes files.image status → IsReadFault status ⊎ CallsFor sizes held image_name script_name status
+start_calls sizes held image_name script_name files Memory e h = inl (inr refl)
+start_calls sizes held image_name script_name files (Limit limits.Frames number most) e h =
+    inr (calls_for sizes held image_name script_name (Limit limits.Frames number most)
+    (files_after sizes held image_name script_name files e ∙ frames_told sizes files number most h))
+start_calls sizes held image_name script_name files other e h = absurd h
 
 -- ---- the same of files of a shelf
 
@@ -118,92 +138,102 @@ both : {A : Type 0} (o : Option A) (P Q R : A → Type 0) → ((x : A) → P x �
 both None P Q R more p q = tt
 both (Some x) P Q R more p q = more x p q
 
-abbrev HasImage : Option (List File) → List ℕ → ImageValue → Type 0
+abbrev pub HasImage : Option (List File) → List ℕ → ImageValue → Type 0
 HasImage holds name image = IfSome holds (λ files. HoldsBytes (first_bytes name files) (λ bytes. loaded bytes ≡ Some image))
 
-abbrev HasScript : Option (List File) → List ℕ → ℕ → ScriptValue → Type 0
+abbrev pub HasScript : Option (List File) → List ℕ → ℕ → ScriptValue → Type 0
 HasScript holds name harts script = IfSome holds (λ files. script_stage harts (first_bytes name files) ≡ Ok script)
 
-abbrev IsAnswered : Option (List File) → Sizes → List ℕ → List ℕ → Status → Type 0
+-- an answer is that of the stages, or a fault of a read
+abbrev pub IsTold : Option (List File) → Sizes → List ℕ → List ℕ → Status → Type 0
+IsTold holds sizes image_name script_name status =
+    IfSome holds (λ files. IsReadFault status ⊎ (held_stage sizes (held_in files) image_name script_name ≡ Err status))
+
+-- an answer is what the files call for, or a fault of a read
+abbrev pub IsAnswered : Option (List File) → Sizes → List ℕ → List ℕ → Status → Type 0
 IsAnswered holds sizes image_name script_name status =
-    IfSome holds (λ files. IsReadFault status ⊎ CallsFor sizes (first_bytes image_name files) (first_bytes script_name files) status)
+    IfSome holds (λ files. IsReadFault status ⊎ CallsFor sizes (held_in files) image_name script_name status)
 
-pub image_answer : (holds : Option (List File)) (sizes : Sizes) (image_name script_name : List ℕ) (status : Status)
-    → IfSome holds (λ files. IsImageStatus (first_bytes image_name files) status) → IsAnswered holds sizes image_name script_name status
-image_answer holds sizes image_name script_name status h =
+-- files are held
+abbrev pub HasFiles : Option (List File) → Sizes → List ℕ → List ℕ → RunFilesValue → Type 0
+HasFiles holds sizes image_name script_name made =
+    IfSome holds (λ files. held_stage sizes (held_in files) image_name script_name ≡ Ok made)
+
+fault_or : (status : Status) (A B : Type 0) → (A → B) → IsReadFault status ⊎ A → IsReadFault status ⊎ B
+fault_or status A B more h = elim h [ inl fault ↦ inl fault | inr a ↦ inr (more a) ]
+
+pub image_told : (holds : Option (List File)) (sizes : Sizes) (image_name script_name : List ℕ) (status : Status)
+    → IfSome holds (λ files. IsImageStatus (first_bytes image_name files) status) → IsTold holds sizes image_name script_name status
+image_told holds sizes image_name script_name status h =
     if_some_more holds (λ (files : List File). IsImageStatus (first_bytes image_name files) status)
-    (λ (files : List File). IsReadFault status ⊎ CallsFor sizes (first_bytes image_name files) (first_bytes script_name files) status)
-    (λ files d. image_calls sizes (first_bytes image_name files) (first_bytes script_name files) status d) h
+    (λ (files : List File). IsReadFault status ⊎ (held_stage sizes (held_in files) image_name script_name ≡ Err status))
+    (λ files d. fault_or status (image_stage (first_bytes image_name files) ≡ Err status) (held_stage sizes (held_in files) image_name script_name ≡ Err status)
+    (λ e. image_fails sizes (held_in files) image_name script_name status e) (image_cause (first_bytes image_name files) status d)) h
 
-pub script_answer : (holds : Option (List File)) (sizes : Sizes) (image_name script_name : List ℕ) (image : ImageValue) (status : Status) → HasImage holds image_name image
-    → IfSome holds (λ files. IsReadFault status ⊎ (script_stage sizes.harts (first_bytes script_name files) ≡ Err status)) → IsAnswered holds sizes image_name script_name status
-script_answer holds sizes image_name script_name image status p q =
+pub script_told : (holds : Option (List File)) (sizes : Sizes) (image_name script_name : List ℕ) (image : ImageValue) (status : Status) → HasImage holds image_name image
+    → IfSome holds (λ files. IsReadFault status ⊎ (script_stage sizes.harts (first_bytes script_name files) ≡ Err status)) → IsTold holds sizes image_name script_name status
+script_told holds sizes image_name script_name image status p q =
     both holds (λ (files : List File). HoldsBytes (first_bytes image_name files) (λ bytes. loaded bytes ≡ Some image))
     (λ (files : List File). IsReadFault status ⊎ (script_stage sizes.harts (first_bytes script_name files) ≡ Err status))
-    (λ (files : List File). IsReadFault status ⊎ CallsFor sizes (first_bytes image_name files) (first_bytes script_name files) status)
-    (λ files d e. script_calls sizes (first_bytes image_name files) (first_bytes script_name files) image status (image_found (first_bytes image_name files) image d) e) p q
+    (λ (files : List File). IsReadFault status ⊎ (held_stage sizes (held_in files) image_name script_name ≡ Err status))
+    (λ files d e. fault_or status (script_stage sizes.harts (first_bytes script_name files) ≡ Err status) (held_stage sizes (held_in files) image_name script_name ≡ Err status)
+    (λ f. script_fails sizes (held_in files) image_name script_name image status (image_found (first_bytes image_name files) image d) f) e) p q
 
-run_answer : (holds : Option (List File)) (sizes : Sizes) (image_name script_name : List ℕ) (image : ImageValue) (script : ScriptValue) (status : Status) → HasImage holds image_name image
-    → HasScript holds script_name sizes.harts script → IsRunStatus sizes image script status → IsAnswered holds sizes image_name script_name status
-run_answer holds sizes image_name script_name image script status p q h =
+-- an image and a script are held
+abbrev HasBoth : Option (List File) → Sizes → List ℕ → List ℕ → ImageValue → ScriptValue → Type 0
+HasBoth holds sizes image_name script_name image script =
+    IfSome holds (λ files. (image_stage (first_bytes image_name files) ≡ Ok image) × (script_stage sizes.harts (first_bytes script_name files) ≡ Ok script))
+
+has_both : (holds : Option (List File)) (sizes : Sizes) (image_name script_name : List ℕ) (image : ImageValue) (script : ScriptValue) → HasImage holds image_name image
+    → HasScript holds script_name sizes.harts script → HasBoth holds sizes image_name script_name image script
+has_both holds sizes image_name script_name image script p q =
     both holds (λ (files : List File). HoldsBytes (first_bytes image_name files) (λ bytes. loaded bytes ≡ Some image))
     (λ (files : List File). script_stage sizes.harts (first_bytes script_name files) ≡ Ok script)
-    (λ (files : List File). IsReadFault status ⊎ CallsFor sizes (first_bytes image_name files) (first_bytes script_name files) status)
-    (λ files d e. run_calls sizes (first_bytes image_name files) (first_bytes script_name files) image script status (image_found (first_bytes image_name files) image d) e h) p q
+    (λ (files : List File). (image_stage (first_bytes image_name files) ≡ Ok image) × (script_stage sizes.harts (first_bytes script_name files) ≡ Ok script))
+    (λ files d e. (image_found (first_bytes image_name files) image d, e)) p q
 
-report_held : (holds : Option (List File)) (sizes : Sizes) (image_name script_name : List ℕ) (image : ImageValue) (script : ScriptValue) (text : List ℕ) → HasImage holds image_name image
-    → HasScript holds script_name sizes.harts script → frames_used sizes image ≤ sizes.frames → IsRun (start_for sizes image) script text
-    → IfSome holds (λ files. HoldsReport sizes (first_bytes image_name files) (first_bytes script_name files) text)
-report_held holds sizes image_name script_name image script text p q fits run =
-    both holds (λ (files : List File). HoldsBytes (first_bytes image_name files) (λ bytes. loaded bytes ≡ Some image))
-    (λ (files : List File). script_stage sizes.harts (first_bytes script_name files) ≡ Ok script)
-    (λ (files : List File). HoldsReport sizes (first_bytes image_name files) (first_bytes script_name files) text)
-    (λ files d e. record {
-      image = image;
-      script = script;
-      files = files_pass sizes (first_bytes image_name files) (first_bytes script_name files) image script (image_found (first_bytes image_name files) image d) e fits;
-      run = run;
-    }) p q
+pub patches_told : (holds : Option (List File)) (sizes : Sizes) (image_name script_name : List ℕ) (image : ImageValue) (script : ScriptValue) (status : Status) → HasImage holds image_name image
+    → HasScript holds script_name sizes.harts script → IfSome holds (λ files. IsReadFault status ⊎ (patches_stage (held_in files) image script.patches ≡ Err status))
+    → IsTold holds sizes image_name script_name status
+patches_told holds sizes image_name script_name image script status p q r =
+    both holds (λ (files : List File). (image_stage (first_bytes image_name files) ≡ Ok image) × (script_stage sizes.harts (first_bytes script_name files) ≡ Ok script))
+    (λ (files : List File). IsReadFault status ⊎ (patches_stage (held_in files) image script.patches ≡ Err status))
+    (λ (files : List File). IsReadFault status ⊎ (held_stage sizes (held_in files) image_name script_name ≡ Err status))
+    (λ files d e. fault_or status (patches_stage (held_in files) image script.patches ≡ Err status) (held_stage sizes (held_in files) image_name script_name ≡ Err status)
+    (λ f. patches_fail sizes (held_in files) image_name script_name image script status d.0 d.1 f) e) (has_both holds sizes image_name script_name image script p q) r
 
--- ---- the same of a result
+pub files_held : (holds : Option (List File)) (sizes : Sizes) (image_name script_name : List ℕ) (image : ImageValue) (script : ScriptValue) (deltas : List DeltaValue) → HasImage holds image_name image
+    → HasScript holds script_name sizes.harts script → IfSome holds (λ files. patches_stage (held_in files) image script.patches ≡ Ok deltas)
+    → HasFiles holds sizes image_name script_name (files_of image script deltas)
+files_held holds sizes image_name script_name image script deltas p q r =
+    both holds (λ (files : List File). (image_stage (first_bytes image_name files) ≡ Ok image) × (script_stage sizes.harts (first_bytes script_name files) ≡ Ok script))
+    (λ (files : List File). patches_stage (held_in files) image script.patches ≡ Ok deltas)
+    (λ (files : List File). held_stage sizes (held_in files) image_name script_name ≡ Ok (files_of image script deltas))
+    (λ files d e. files_found sizes (held_in files) image_name script_name image script deltas d.0 d.1 e) (has_both holds sizes image_name script_name image script p q) r
 
-pub result_answer : (r : Result (Vec ℕ Global) Status) (holds : Option (List File)) (sizes : Sizes) (image_name script_name : List ℕ) (image : ImageValue) (script : ScriptValue)
-    → HasImage holds image_name image → HasScript holds script_name sizes.harts script → IfErr r (IsRunStatus sizes image script)
-    → IfErr r (λ status. IsAnswered holds sizes image_name script_name status)
-result_answer (Ok text) holds sizes image_name script_name image script p q h = tt
-result_answer (Err status) holds sizes image_name script_name image script p q h = run_answer holds sizes image_name script_name image script status p q h
+pub told_answer : (holds : Option (List File)) (sizes : Sizes) (image_name script_name : List ℕ) (status : Status) → IsTold holds sizes image_name script_name status
+    → IsAnswered holds sizes image_name script_name status
+told_answer holds sizes image_name script_name status h =
+    if_some_more holds (λ (files : List File). IsReadFault status ⊎ (held_stage sizes (held_in files) image_name script_name ≡ Err status))
+    (λ (files : List File). IsReadFault status ⊎ CallsFor sizes (held_in files) image_name script_name status)
+    (λ files d. held_calls sizes (held_in files) image_name script_name status d) h
 
-pub result_report : (r : Result (Vec ℕ Global) Status) (holds : Option (List File)) (sizes : Sizes) (image_name script_name : List ℕ) (image : ImageValue) (script : ScriptValue)
-    → HasImage holds image_name image → HasScript holds script_name sizes.harts script → OnOk r (frames_used sizes image ≤ sizes.frames)
-    → IfOk r (λ text. IsRun (start_for sizes image) script text.items)
-    → IfOk r (λ text. IfSome holds (λ files. HoldsReport sizes (first_bytes image_name files) (first_bytes script_name files) text.items))
-result_report (Ok text) holds sizes image_name script_name image script p q fits run = report_held holds sizes image_name script_name image script text.items p q fits run
-result_report (Err status) holds sizes image_name script_name image script p q fits run = tt
+pub start_answer : (holds : Option (List File)) (sizes : Sizes) (image_name script_name : List ℕ) (made : RunFilesValue) (status : Status) → HasFiles holds sizes image_name script_name made
+    → IsStartStatus sizes made.image status → IsAnswered holds sizes image_name script_name status
+start_answer holds sizes image_name script_name made status p h =
+    if_some_more holds (λ (files : List File). held_stage sizes (held_in files) image_name script_name ≡ Ok made)
+    (λ (files : List File). IsReadFault status ⊎ CallsFor sizes (held_in files) image_name script_name status)
+    (λ files d. start_calls sizes (held_in files) image_name script_name made status d h) p
 
--- a run answers no Shelf
-run_reads : (sizes : Sizes) (image : ImageValue) (script : ScriptValue) (status : Status) → IsRunStatus sizes image script status → status ≡ Shelf → ⊥
-run_reads sizes image script status h e = subst (IsRunStatus sizes image script) e h
+pub run_held : (holds : Option (List File)) (sizes : Sizes) (image_name script_name : List ℕ) (made : RunFilesValue) (script : ScriptValue) (machine : MachineValue)
+    → HasFiles holds sizes image_name script_name made → frames_used sizes made.image ≤ sizes.frames → script ≡ made.script → HasRun sizes made machine
+    → IfSome holds (λ files. HoldsRun sizes (held_in files) image_name script_name script machine)
+run_held holds sizes image_name script_name made script machine p fits is run =
+    if_some_more holds (λ (files : List File). held_stage sizes (held_in files) image_name script_name ≡ Ok made)
+    (λ (files : List File). HoldsRun sizes (held_in files) image_name script_name script machine)
+    (λ files d. record { files = made; is = files_pass sizes (held_in files) image_name script_name made d fits; script_is = is; made = run }) p
 
-pub result_reads : (r : Result (Vec ℕ Global) Status) (sizes : Sizes) (image : ImageValue) (script : ScriptValue) → IfErr r (IsRunStatus sizes image script) → r ≡ Err Shelf → ⊥
-result_reads (Ok text) sizes image script h e = cc
-result_reads (Err status) sizes image script h e = let same : status ≡ Shelf = cc in run_reads sizes image script status h same
-
--- a result that is this error
-pub err_holds : (r : Result (Vec ℕ Global) Status) (status : Status) (P : Status → Type 0) → r ≡ Err status → P status → IfErr r P
-err_holds r status P e p = rw e p
-
--- ---- counts of faults
-
-pub risen_more : (old mid new : ℕ) → old ≤ mid → HasRisen mid new → HasRisen old new
-risen_more old mid new le h = elim h [ inl more ↦ inl (omega arith) | inr all ↦ inr all ]
-
-pub needed_script : (holds : Option (List File)) (image_name : List ℕ) (image : ImageValue) (A B : Type 0) → HasImage holds image_name image → B
-    → IfSome holds (λ files. A ⊎ (PassesImage (first_bytes image_name files) × B))
-needed_script holds image_name image A B p b =
-    if_some_more holds (λ (files : List File). HoldsBytes (first_bytes image_name files) (λ bytes. loaded bytes ≡ Some image))
-    (λ (files : List File). A ⊎ (PassesImage (first_bytes image_name files) × B))
-    (λ files d. inr (record { image = image; is = image_found (first_bytes image_name files) image d }, b)) p
-
-pub needed_image : (holds : Option (List File)) (image_name : List ℕ) (A B : Type 0) → A → IfSome holds (λ files. A ⊎ (PassesImage (first_bytes image_name files) × B))
-needed_image None image_name A B a = tt
-needed_image (Some files) image_name A B a = inl a
+-- what holds of a result, by what holds where there is one
+pub ok_more : {A : Type 0} (r : Result A Status) (F : Type 0) (P Q R : A → Type 0) → (F → (x : A) → P x → Q x → R x) → OnOk r F → IfOk r P → IfOk r Q → IfOk r R
+ok_more (Ok x) F P Q R more f p q = more f x p q
+ok_more (Err status) F P Q R more f p q = tt

@@ -1,9 +1,8 @@
 -- The stages of a run that read one file.
-use Rattle.std.proofs.Common.{◌≡◌, ◌<◌, ◌≤◌, ◌+◌, ◌⊎◌, ℕ, List, Bool, true, false, cond, Option, Some, None, Result, Ok, Err, length, refl, sym, ap, subst, ◌∙◌, inl, inr, arith, sum_by}
+use Rattle.std.proofs.Common.{◌≡◌, ◌≤◌, ◌⊎◌, ℕ, List, false, cond, Option, Some, None, Result, Ok, Err, length, refl, sym, ap, subst, ◌∙◌, inl, inr, arith, sum_by}
 use Rattle.std.specs.Prelude.{IfSome, nat_lt}
 use Rattle.std.proofs.lemmas.Bool.Decides.{nat_tests}
 use Rattle.wf_outside.specs.Files.{File, first_bytes}
-use Rattle.wf_outside.specs.Images.{ImageValue}
 use Rattle.wf_flat.proofs.ListLemmas.{if_some_more}
 use Rattle.wf_text.proofs.NumberLemmas.{chosen}
 use Rattle.wf_text.specs.Lines.{lines_of}
@@ -13,89 +12,17 @@ use Rattle.wf_script.specs.Commands.{IsScript, ScriptValue, units_of}
 use Rattle.wf_script.specs.Reading.{IsFaultOf, empty, script_of, told, with_lines, within_limits}
 use Rattle.wf_script.proofs.KeptLemmas as kept
 use Rattle.wf_script.proofs.LineLemmas.{script_kept}
-use Rattle.wf_status.specs.declared.rules.ImageRule.{ImageRule}
 use Rattle.wf_status.specs.declared.status.Status.{Status}
-use Rattle.wf_status.specs.declared.status.Status.TheVariants.{Image, Limit, Memory, Shelf, Unbuilt}
+use Rattle.wf_status.specs.declared.status.Status.TheVariants.{Limit, Memory, Shelf, Unbuilt}
 use Rattle.wf_status.specs.declared.status.LimitKind.TheVariants as limits
 use Rattle.wf_status.specs.declared.status.Unbuilt.TheVariants as unbuilt
-use Rattle.wf_fetch.specs.Fetching.{IsImageStatus, IsLimit, IsReadStatus}
-use Rattle.wf_fetch.specs.Held.{HoldsBytes, IsLongerThan, max_file}
-use Rattle.wf_fetch.specs.Loaded.{elf_of, image_fault, loaded, unless_fault}
-use Rattle.elf_load.specs.Loaded.{image_of}
+use Rattle.wf_fetch.specs.Fetching.{IsReadStatus}
+use Rattle.wf_fetch.specs.Held.{HoldsBytes, max_file}
 use Rattle.wf_follow.specs.Unbuilt.{AreBuilt, first_unbuilt}
-use Rattle.wf_run.specs.Stages.{◌>>=◌, bytes_stage, fault_status, image_stage, read_stage, script_stage, unless_broken, unless_unbuilt}
-use Rattle.wf_run.specs.Answers.{IsReadFault}
+use Rattle.wf_fetch.specs.Stages.{◌>>=◌, IsReadFault, bytes_stage}
+use Rattle.wf_fetch.proofs.StageLemmas.{bind_ok, bytes_long, bytes_read, limit_same, refused}
+use Rattle.wf_run.specs.Stages.{fault_status, read_stage, script_stage, unless_unbuilt}
 use Rattle.wf_run.proofs.BuiltLemmas.{all_built}
-
--- tests of numbers
-pub less : (n m : ℕ) → n < m → nat_lt n m ≡ true
-less n m h = grind (arith, nat_tests)
-
-pub not_less : (n m : ℕ) → m ≤ n → nat_lt n m ≡ false
-not_less n m h = grind (arith, nat_tests)
-
--- a stage that gives something, and one that fails
-abbrev pub given : {A : Type 0} → A → Result A Status
-given x = Ok x
-
-abbrev pub refused : {A : Type 0} → Status → Result A Status
-refused status = Err status
-
--- a stage after which another gave something gave something itself
-pub bind_ok : {A B : Type 0} (r : Result A Status) (f : A → Result B Status) (y : B) → (r >>= f) ≡ Ok y → (x : A) × (r ≡ Ok x) × (f x ≡ Ok y)
-bind_ok (Ok x) f y e = (x, refl, e)
-bind_ok (Err d) f y e = absurd cc
-
--- ---- the bytes of a file
-
-bytes_read : (held : Option (List ℕ)) (bytes : List ℕ) → HoldsBytes held (λ b. b ≡ bytes) → bytes_stage held ≡ Ok bytes
-bytes_read None bytes h = absurd h
-bytes_read (Some b) bytes h =
-    ap (λ (t : Bool). cond t (refused {A = List ℕ} (Limit limits.File (max_file + 1) max_file)) (given b)) (not_less max_file (length b) h.0)
-    ∙ ap (λ (x : List ℕ). given x) h.1
-
-bytes_long : (held : Option (List ℕ)) → IsLongerThan max_file held → bytes_stage held ≡ Err (Limit limits.File (max_file + 1) max_file)
-bytes_long None h = absurd h
-bytes_long (Some b) h = ap (λ (t : Bool). cond t (refused {A = List ℕ} (Limit limits.File (max_file + 1) max_file)) (given b)) (less max_file (length b) h)
-
-limit_same : (number most : ℕ) → number ≡ max_file + 1 → most ≡ max_file → Limit limits.File (max_file + 1) max_file ≡ Limit limits.File number most
-limit_same number most e f = ap (λ (n : ℕ). Limit limits.File n max_file) (sym e) ∙ ap (λ (m : ℕ). Limit limits.File number m) (sym f)
-
--- ---- the image of a file
-
-abbrev in_bytes : List ℕ → Result ImageValue Status
-in_bytes bytes = unless_broken (image_fault bytes) (image_of (elf_of bytes))
-
-image_kept : (fault : Option (ImageRule × ℕ)) (made image : ImageValue) → unless_fault fault made ≡ Some image → unless_broken fault made ≡ Ok image
-image_kept None made image e = let same : made ≡ image = cc in ap (λ (i : ImageValue). given i) same
-image_kept (Some fault) made image e = absurd cc
-
-image_loaded : (bytes : List ℕ) (image : ImageValue) → loaded bytes ≡ Some image → in_bytes bytes ≡ Ok image
-unfolding loaded
-image_loaded bytes image e = image_kept (image_fault bytes) (image_of (elf_of bytes)) image e
-
-pub image_found : (held : Option (List ℕ)) (image : ImageValue) → HoldsBytes held (λ bytes. loaded bytes ≡ Some image) → image_stage held ≡ Ok image
-image_found None image h = absurd h
-image_found (Some bytes) image h =
-    ap (λ (r : Result (List ℕ) Status). r >>= in_bytes) (bytes_read (Some bytes) bytes (h.0, refl)) ∙ image_loaded bytes image h.1
-
-image_broken : (held : Option (List ℕ)) (rule : ImageRule) (at : ℕ) → HoldsBytes held (λ bytes. image_fault bytes ≡ Some (rule, at)) → image_stage held ≡ Err (Image rule at)
-image_broken None rule at h = absurd h
-image_broken (Some bytes) rule at h =
-    ap (λ (r : Result (List ℕ) Status). r >>= in_bytes) (bytes_read (Some bytes) bytes (h.0, refl))
-    ∙ ap (λ (f : Option (ImageRule × ℕ)). unless_broken f (image_of (elf_of bytes))) h.1
-
-image_long : (held : Option (List ℕ)) (number most : ℕ) → IsLimit held number most → image_stage held ≡ Err (Limit limits.File number most)
-image_long held number most h =
-    ap (λ (r : Result (List ℕ) Status). r >>= in_bytes) (bytes_long held h.2) ∙ ap (λ (s : Status). refused {A = ImageValue} s) (limit_same number most h.0 h.1)
-
--- why there is no image is the answer of its stage, unless the read failed or memory ran out
-pub image_cause : (held : Option (List ℕ)) (status : Status) → IsImageStatus held status → IsReadFault status ⊎ (image_stage held ≡ Err status)
-image_cause held Shelf h = inl (inl refl)
-image_cause held Memory h = inl (inr refl)
-image_cause held (Limit limits.File number most) h = inr (image_long held number most h)
-image_cause held (Image rule at) h = inr (image_broken held rule at h)
-image_cause held other h = absurd h
 
 -- ---- the script of a file
 
@@ -106,7 +33,7 @@ abbrev in_text : ℕ → List ℕ → Result ScriptValue Status
 in_text harts bytes = read_stage (script_of harts bytes) >>= in_script
 
 script_after : (harts : ℕ) (held : Option (List ℕ)) (bytes : List ℕ) → HoldsBytes held (λ b. b ≡ bytes) → script_stage harts held ≡ in_text harts bytes
-script_after harts held bytes h = ap (λ (r : Result (List ℕ) Status). r >>= in_text harts) (bytes_read held bytes h)
+script_after harts held bytes h = ap (λ (r : Result (List ℕ) Status). r >>= in_text harts) (bytes_read max_file held bytes h)
 
 script_built : (harts : ℕ) (held : Option (List ℕ)) (bytes : List ℕ) (script : ScriptValue) → HoldsBytes held (λ b. b ≡ bytes) → script_of harts bytes ≡ Ok script
     → first_unbuilt script.commands script.lines ≡ None → script_stage harts held ≡ Ok script
@@ -133,7 +60,7 @@ read_cause : (harts : ℕ) (held : Option (List ℕ)) (status : Status) → IsRe
 read_cause harts held Shelf h = inl (inl refl)
 read_cause harts held Memory h = inl (inr refl)
 read_cause harts held (Limit limits.File number most) h =
-    inr (ap (λ (r : Result (List ℕ) Status). r >>= in_text harts) (bytes_long held h.2) ∙ ap (λ (s : Status). refused {A = ScriptValue} s) (limit_same number most h.0 h.1))
+    inr (ap (λ (r : Result (List ℕ) Status). r >>= in_text harts) (bytes_long max_file held h.2) ∙ ap (λ (s : Status). refused {A = ScriptValue} s) (limit_same max_file number most h.0 h.1))
 read_cause harts held other h = absurd h
 
 -- ---- the same of a file of a shelf

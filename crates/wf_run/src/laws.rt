@@ -3,8 +3,8 @@ ghost use Rattle.wf_run.specs.Laws.{AnswersAreOne, ReportsAreCalledFor, ReportsA
 
 use wf_follow::runs_are_determined;
 
-/// Files call for at most one answer, and have at most one report; where they have one, they call
-/// for it.
+/// Files call for at most one answer, and have at most one report, where no frame is worn in its
+/// run; where they have one, they call for it.
 pub fn answers_are_determined()
     ensures answers { AnswersAreOne }
     ensures reports { ReportsAreOne }

@@ -5,7 +5,8 @@ ghost use Rattle.wf_status.specs.declared.status.Status.{Status};
 ghost use Rattle.wf_script.specs.Commands.{IsScript};
 ghost use Rattle.wf_follow.specs.Unbuilt.{AreBuilt, first_unbuilt, is_built_command};
 ghost use Rattle.wf_run.specs.Stages.{fault_status, script_stage};
-ghost use Rattle.wf_run.specs.Answers.{IsReadFault, MayFail};
+ghost use Rattle.wf_fetch.specs.Stages.{IsReadFault};
+ghost use Rattle.wf_run.specs.Answers.{MayFail};
 
 use std::alloc::Global;
 use wf_fetch::fetch;
@@ -47,11 +48,9 @@ fn is_built_command(command: Command) -> bool
         Command::Step { .. } | Command::Run { .. } | Command::Regs { .. } | Command::Mem { .. } => {
             true
         }
-        Command::Tick { .. }
-        | Command::Patch { .. }
-        | Command::Create { .. }
-        | Command::Delete { .. }
-        | Command::Tables { .. } => false,
+        Command::Patch { begin, .. } => !begin,
+        Command::Create { .. } | Command::Delete { .. } => true,
+        Command::Tick { .. } | Command::Tables { .. } => false,
     }
 }
 

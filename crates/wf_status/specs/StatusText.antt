@@ -44,7 +44,6 @@ limit_text Frames = codes "frames"
 -- the words for what is not built: addresses are hexadecimal, lines decimal
 abbrev pub unbuilt_text : UnbuiltPart → List ℕ
 unbuilt_text (unbuilt.Script line) = codes "script line " ++ decimal line
-unbuilt_text unbuilt.Journal = codes "journal"
 unbuilt_text (unbuilt.Step pc) = codes "step " ++ digits 16 false pc
 
 -- the word for a rule of images

@@ -25,8 +25,6 @@ pub enum LimitKind {
 pub enum Unbuilt {
     /// The command in this line of the script, counted from 1.
     Script { line: u64 },
-    /// The patches of a journal to be checked.
-    Journal,
     /// The instruction at this address, or what it asks for.
     Step { pc: u64 },
 }
@@ -146,7 +144,6 @@ impl fmt::Display for Unbuilt {
     fn fmt<W: fmt::Write>(&self, f: &mut fmt::Formatter<W>) -> fmt::Result {
         match *self {
             Unbuilt::Script { line } => write!(f, "script line {line}"),
-            Unbuilt::Journal => write!(f, "journal"),
             Unbuilt::Step { pc } => write!(f, "step {pc:x}"),
         }
     }

@@ -207,7 +207,8 @@ fn counted(alloc: Global, words: &[u64], last_writes: u64, n: u64) -> Result<Vec
         last_writes,
         last_birth: 1000,
     };
-    let mut machine = Machine::new(alloc, &small_image(alloc, words)?, 1, limits)?;
+    let image = small_image(alloc, words)?;
+    let mut machine = Machine::new(alloc, &image, 1, limits, Vec::new(alloc))?;
     machine.obey(alloc, Command::Step { hart: 0, n })?;
     Ok(machine.report(alloc, &[])?)
 }

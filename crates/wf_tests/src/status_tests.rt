@@ -32,7 +32,6 @@ fn statuses(rt: HostRuntime) -> Result<(), Fail> {
             "wfpatch: unbuilt script line 12",
         ),
         (Status::Journal { line: 12 }, 4, "wfpatch: journal line 12"),
-        (unbuilt(Unbuilt::Journal), 10, "wfpatch: unbuilt journal"),
         (
             unbuilt(Unbuilt::Step { pc: 0x1_00AC }),
             10,

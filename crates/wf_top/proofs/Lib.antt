@@ -1,2 +1,6 @@
 pub mod LawLemmas
 pub mod TopLemmas
+pub mod ScriptLemmas
+pub mod UnitLemmas
+pub mod MakingLemmas
+pub mod RunLemmas

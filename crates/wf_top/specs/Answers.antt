@@ -1,23 +1,21 @@
 -- What a command answers and puts, by its words and by what the shelf holds.
 use Rattle.std.specs.Prelude.{ℕ, List, Option, ◌≡◌, ◌⊎◌, IfSome}
-use Rattle.wf_outside.specs.Files.{File, first_bytes}
+use Rattle.wf_outside.specs.Files.{File}
 use Rattle.wf_outside.specs.Puts.{Appends, AppendsPrefix}
 use Rattle.wf_status.specs.declared.status.Status.{Status}
 use Rattle.wf_status.specs.declared.status.Status.TheVariants.{Shelf, Sink, Memory}
-use Rattle.wf_words.specs.declared.command.Command.{Command}
-use Rattle.wf_words.specs.Words.{asked_by}
-use Rattle.wf_top.specs.Commands.{IsOutput}
-
--- what files hold under a name
-abbrev pub held_in : List File → List ℕ → Option (List ℕ)
-held_in files name = first_bytes name files
+use Rattle.wf_patches.specs.Needed.{held_in}
+use Rattle.wf_usage.specs.declared.command.Command.{Command}
+use Rattle.wf_usage.specs.Words.{asked_by}
+use Rattle.wf_top.specs.Commands.{IsOutput, files_for}
 
 -- P of the command that words ask for and of what is held, where the words are those of a command
--- and the shelf tells what it holds
+-- and the shelf tells what it holds or the command reads no file
 abbrev pub IfAsked : List (List ℕ) → Option (List File)
     → (Command → (List ℕ → Option (List ℕ)) → Type 0) → Type 0
 IfAsked words holds P =
-    IfSome (asked_by words) (λ command. IfSome holds (λ files. P command (held_in files)))
+    IfSome (asked_by words)
+    (λ command. IfSome (files_for command holds) (λ files. P command (held_in files)))
 
 -- a read or a put failed, or memory ran out
 abbrev pub IsFault : Status → Type 0

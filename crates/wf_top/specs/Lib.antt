@@ -1,3 +1,4 @@
+pub mod Making
 pub mod Commands
 pub mod Answers
 pub mod Laws

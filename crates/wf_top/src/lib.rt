@@ -3,6 +3,7 @@
 
 mod answering;
 mod laws;
+mod making;
 mod output;
 
 pub use answering::top;

@@ -1,4 +1,8 @@
+use Rattle.std.proofs.Common.{◌%◌}
+use Rattle.wf_outside.specs.Pages.{page_of}
+use Rattle.wf_flat.specs.Memory.{data_in, number_in}
 use Rattle.wf_driver.specs.Stepping.{load_at}
+use Rattle.wf_driver.proofs.AccessLemmas.{value_there}
 use Rattle.wf_driver.proofs.StepLemmas.{acts_free}
 use Rattle.wf_driver.proofs.ServingLemmas.{last_takes, taken_looks, taken_held, free_looks, free_held}
 use Rattle.wf_driver.proofs.loading.read_page.Goals as goal
@@ -10,7 +14,7 @@ take-requires-clause-may c =
 pub read-requires-clause-may : goal.read-requires-clause-may
 read-requires-clause-may c =
     taken_looks c.args.flat.now c.take.new.flat c.args.hart c.data_value-value.result c.args.arch.now c.args.operand c.args.reserving c.args.found c.requires.load c.requires.ready c.requires.found c.requires.near
-    c.take.ensures.harts c.take.ensures.gens c.take.ensures.page c.data_value-value.ensures
+    c.take.ensures.harts c.take.ensures.gens c.take.ensures.page (value_there (λ page. number_in page.words (c.args.operand.va % 4096) c.args.operand.width) (data_in c.args.flat.now.pages (page_of c.args.operand.va)) c.data_value-value.result c.data_value-value.ensures)
 
 pub read-requires-clause-held : goal.read-requires-clause-held
 read-requires-clause-held c = taken_held c.args.flat.now c.take.new.flat c.args.hart (load_at c.args.operand) c.args.found c.requires.found c.take.ensures.page
@@ -18,7 +22,7 @@ read-requires-clause-held c = taken_held c.args.flat.now c.take.new.flat c.args.
 pub read-requires-else-found-clause-may : goal.read-requires-else-found-clause-may
 read-requires-else-found-clause-may c =
     free_looks c.args.flat.now c.args.hart c.data_value-value.result c.args.arch.now c.args.operand c.args.reserving c.args.found (acts_free c.args.flat.now c.args.hart c.requires.acts) c.requires.load c.requires.ready c.requires.found c.requires.near
-    c.if-found.false c.data_value-value.ensures
+    c.if-found.false (value_there (λ page. number_in page.words (c.args.operand.va % 4096) c.args.operand.width) (data_in c.args.flat.now.pages (page_of c.args.operand.va)) c.data_value-value.result c.data_value-value.ensures)
 
 pub read-requires-else-found-clause-held : goal.read-requires-else-found-clause-held
 read-requires-else-found-clause-held c = free_held c.args.flat.now c.args.hart (load_at c.args.operand) (acts_free c.args.flat.now c.args.hart c.requires.acts)

@@ -6,7 +6,7 @@ use Rattle.wf_driver.proofs.stepping.fetch.Goals as goal
 
 pub returns-clause-made : goal.returns-clause-made
 returns-clause-made c = λ s before b.
-    fetch_made s c.args.flat.now c.fetch.new.self before c.args.journal.now.items c.append.new.journal.items c.args.hart c.args.pc c.args.word b c.requires.acts.no_one c.requires.ready c.requires.built c.fetch.ensures.state c.append.ensures.items
+    fetch_made s c.args.flat.now c.fetch.new.self before c.args.journal.now.items c.append.new.journal.items c.args.hart c.args.pc c.args.word b c.requires.acts.no_one c.requires.ready c.fetch.ensures.state c.append.ensures.items
 
 pub returns-clause-acts : goal.returns-clause-acts
 returns-clause-acts c = fetch_acts c.args.flat.now c.fetch.new.self c.args.hart c.args.pc c.args.word c.requires.acts c.fetch.ensures.state

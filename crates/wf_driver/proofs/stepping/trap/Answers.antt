@@ -10,7 +10,7 @@ use Rattle.wf_driver.proofs.stepping.trap.Goals as goal
 
 pub returns-clause-made : goal.returns-clause-made
 returns-clause-made c = λ s before b.
-    call_made s c.args.flat.now c.trap.new.self before c.args.journal.now.items c.append-2.new.journal.items c.args.hart (Trap c.args.cause c.args.value) b c.requires.acts c.requires.ready (record { moves = λ m. refl; works = λ deltas s owed. refl; stands = λ m. tt }) refl refl
+    call_made s c.args.flat.now c.trap.new.self before c.args.journal.now.items c.append-2.new.journal.items c.args.hart (Trap c.args.cause c.args.value) b c.requires.acts c.requires.ready (record { moves = λ m. refl }) refl refl
     (c.trap.ensures.state ∙ ap (λ (s : FlatState). flat_after [] s (Hart c.args.hart) (Trap c.args.cause c.args.value)) c.enter.ensures)
     (rw (c.append-2.ensures.items, c.append.ensures.items) refl)
 

@@ -2,8 +2,10 @@ use Rattle.std.proofs.Common.{◌%◌, ap, Some}
 use Rattle.wf_flat.specs.State.{FlatState}
 use Rattle.wf_outside.specs.Pages.{page_of}
 use Rattle.wf_flat.specs.Changes.{swapped_by}
+use Rattle.wf_flat.specs.Memory.{data_in, number_in}
 use Rattle.wf_driver.specs.declared.actions.Write.TheVariants.{Swap}
 use Rattle.wf_driver.specs.Stepping.{store_at}
+use Rattle.wf_driver.proofs.AccessLemmas.{value_there}
 use Rattle.wf_driver.proofs.MakingLemmas.{swap_made, wrote_acts, wrote_held, swap_answers, done}
 use Rattle.wf_flat.proofs.ChangeLemmas.{hart_there}
 use Rattle.wf_driver.proofs.ServingLemmas.{store_access, swap_may}
@@ -27,5 +29,5 @@ pub returns-clause-made : goal.returns-clause-made
 returns-clause-made c = λ s before b.
     c.end.ensures.made s before
     (swap_made s c.args.flat.now c.swap.new.self before c.args.journal.now.items c.append.new.journal.items c.args.hart c.args.operand.va c.args.operand.width c.data_value-old.result c.amo-new.result b c.requires.acts.no_one
-    (swap_may c.args.flat.now c.args.hart c.args.page c.args.value c.data_value-old.result c.amo-new.result c.args.op c.args.arch.now c.args.operand c.requires.store c.requires.ready c.requires.held c.data_value-old.ensures c.amo-new.ensures.value)
+    (swap_may c.args.flat.now c.args.hart c.args.page c.args.value c.data_value-old.result c.amo-new.result c.args.op c.args.arch.now c.args.operand c.requires.store c.requires.ready c.requires.held (value_there (λ page. number_in page.words (c.args.operand.va % 4096) c.args.operand.width) (data_in c.args.flat.now.pages (page_of c.args.operand.va)) c.data_value-old.result c.data_value-old.ensures) c.amo-new.ensures.value)
     c.swap.ensures.state c.append.ensures.items)

@@ -2,10 +2,10 @@ use Rattle.wf_run.proofs.LawLemmas.{answers_are_one, reports_are_called_for, rep
 use Rattle.wf_run.proofs.laws.answers_are_determined.Goals as goal
 
 pub returns-clause-answers : goal.returns-clause-answers
-returns-clause-answers c = answers_are_one c.runs_are_determined.ensures.one
+returns-clause-answers c = answers_are_one
 
 pub returns-clause-reports : goal.returns-clause-reports
 returns-clause-reports c = reports_are_one c.runs_are_determined.ensures.reports
 
 pub returns-clause-called : goal.returns-clause-called
-returns-clause-called c = reports_are_called_for c.runs_are_determined.ensures.nothing
+returns-clause-called c = reports_are_called_for

@@ -6,4 +6,5 @@ abbrev pub invariant-loop-command : goal.invariant-loop-command
 invariant-loop-command l = record {
   followed : HasFollowed (take l.command-index l.commands) l.fn.machine l.machine;
   harts : length l.machine.flat.harts ≡ length l.fn.machine.flat.harts;
+  deltas : l.machine.deltas ≡ l.fn.machine.deltas;
 }

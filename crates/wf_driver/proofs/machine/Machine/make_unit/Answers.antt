@@ -1,34 +1,42 @@
-use Rattle.std.proofs.Common.{◌<◌, length, sym, subst}
+use Rattle.std.proofs.Common.{◌<◌, List, length, sym, subst}
 use Rattle.std.proofs.lemmas.Result.{on_err_weaker, on_ok_weaker}
+use Rattle.wf_flat.specs.Follows.{IsUnit}
+use Rattle.wf_outside.specs.Images.{DeltaValue}
+use Rattle.wf_legal.specs.Legal.{at_rest}
+use Rattle.wf_sound.specs.Sound.{IsSound}
 use Rattle.wf_driver.specs.Machines.{MachineValue}
-use Rattle.wf_driver.proofs.MadeLemmas.{unit_made, unit_unmade, unit_unbuilt, unit_harts, unit_ready}
+use Rattle.wf_driver.proofs.KeepLemmas.{births_left, ready_after, ready_sound}
+use Rattle.wf_driver.proofs.MadeLemmas.{unit_made, unmade, same_harts}
 use Rattle.wf_driver.proofs.machine.Machine.make_unit.Goals as goal
 
-pub step-requires-clause-rests : goal.step-requires-clause-rests
-step-requires-clause-rests c = c.self.invariant.rests
+pub step-requires-clause-sound : goal.step-requires-clause-sound
+step-requires-clause-sound c =
+    subst (λ (deltas : List DeltaValue). IsSound (at_rest deltas c.self.inside.flat)) (sym c.deref-2.ensures.value) (ready_sound c.journals_keep_sound.ensures c.self.inside.deltas.items c.self.inside.flat c.self.inside.entries.items c.self.invariant)
+
+pub step-requires-clause-births : goal.step-requires-clause-births
+step-requires-clause-births c =
+    births_left c.births_are_few.ensures c.self.inside.deltas.items c.self.inside.flat c.self.inside.entries.items c.self.invariant (rw c.deref.ensures.value at c.entries_are_few.ensures)
 
 pub step-requires-clause-there : goal.step-requires-clause-there
 step-requires-clause-there c = subst (λ (m : MachineValue). c.args.hart < length m.flat.harts) (sym c.self.view_is) c.requires
 
 pub invariant_of-self : goal.invariant_of-self
-invariant_of-self c = unit_ready c.self.inside.flat c.step.new.flat c.self.invariant c.step.ensures.rests c.step.ensures.harts
+invariant_of-self c =
+    ready_after c.step.result c.self.inside.deltas.items c.self.inside.flat c.step.new.flat c.self.inside.entries.items c.step.new.journal.items (IsUnit c.args.hart) c.self.invariant (rw c.deref-2.ensures.value at c.step.ensures.ok) c.step.ensures.err
+    c.step.ensures.rests c.step.ensures.harts
 
 pub returns-clause-ok : goal.returns-clause-ok
 returns-clause-ok c =
     on_ok_weaker c.step.result
-    (λ d. unit_made c.self.inside.flat c.step.new.flat c.self.inside.entries.items c.step.new.journal.items c.self.inside.listings.items c.self.inside.last c.args.self.now c.args.hart c.self.view_is d c.step.ensures.harts)
-    c.step.ensures.ok
+    (λ d. unit_made c.self.inside.deltas.items c.self.inside.flat c.step.new.flat c.self.inside.entries.items c.step.new.journal.items c.self.inside.listings.items c.self.inside.last c.args.self.now c.args.hart c.self.view_is d c.step.ensures.harts)
+    (rw c.deref-2.ensures.value at c.step.ensures.ok)
 
 pub returns-clause-err : goal.returns-clause-err
 returns-clause-err c =
     on_err_weaker c.step.result
-    (λ d. unit_unmade c.self.inside.flat c.step.new.flat c.self.inside.entries.items c.step.new.journal.items c.self.inside.listings.items c.self.inside.last c.args.self.now c.self.view_is d.0 d.1)
+    (λ d. unmade c.self.inside.deltas.items c.self.inside.flat c.step.new.flat c.self.inside.entries.items c.step.new.journal.items c.self.inside.listings.items c.self.inside.last c.args.self.now c.self.view_is d.0 d.1)
     c.step.ensures.err
-
-pub returns-clause-unbuilt : goal.returns-clause-unbuilt
-returns-clause-unbuilt c = λ pc e.
-    unit_unbuilt c.self.inside.flat c.self.inside.entries.items c.self.inside.listings.items c.self.inside.last c.args.self.now pc c.args.hart c.self.view_is c.self.invariant.rests (c.step.ensures.unbuilt pc e)
 
 pub returns-clause-harts : goal.returns-clause-harts
 returns-clause-harts c =
-    unit_harts c.self.inside.flat c.step.new.flat c.self.inside.entries.items c.self.inside.listings.items c.self.inside.last c.args.self.now c.self.view_is c.step.ensures.harts
+    same_harts c.self.inside.deltas.items c.self.inside.flat c.step.new.flat c.self.inside.entries.items c.self.inside.listings.items c.self.inside.last c.args.self.now c.self.view_is c.step.ensures.harts

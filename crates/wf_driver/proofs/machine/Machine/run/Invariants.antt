@@ -7,4 +7,5 @@ abbrev pub invariant-loop : goal.invariant-loop
 invariant-loop l = record {
   made : HasMade (Times l.counter IsTurn) l.fn.self l.self;
   harts : length l.self.flat.harts ≡ length l.fn.self.flat.harts;
+  deltas : l.self.deltas ≡ l.fn.self.deltas;
 }

@@ -1,19 +1,18 @@
-use Rattle.std.proofs.Common.{◌≡◌, ◌∙◌, ℕ, [], refl, sym, subst, arith, rules}
-use Rattle.wf_legal.specs.Legal.{at_rest}
+use Rattle.std.proofs.Common.{◌≡◌, ◌∙◌, ℕ, refl, sym, subst, arith}
 use Rattle.wf_follow.specs.Units.{IsUnitOf, Times}
-use Rattle.wf_follow.specs.Unbuilt.{MeetsUnbuiltAt}
 use Rattle.wf_driver.specs.Machines.{MachineValue}
 use Rattle.wf_driver.specs.Making.{HasMade}
 use Rattle.wf_driver.proofs.MadeLemmas.{made_none, made_push, step_obeyed, step_stopped, when_err}
 use Rattle.wf_driver.proofs.machine.Machine.step.Goals as goal
 
 pub loop-init : goal.loop-init
-loop-init c = record { made = made_none (IsUnitOf c.args.hart) c.args.self.now; harts = refl }
+loop-init c = record { made = made_none (IsUnitOf c.args.hart) c.args.self.now; harts = refl; deltas = refl }
 
 pub loop-preserved : goal.loop-preserved
 loop-preserved c = record {
   made = made_push c.loop.counter (IsUnitOf c.args.hart) c.args.self.now c.loop.self c.make_unit.new.self c.loop.invariant.made c.in_ok-make_unit.ensures.ok;
   harts = c.make_unit.ensures.harts ∙ c.loop.invariant.harts;
+  deltas = c.make_unit.ensures.deltas ∙ c.loop.invariant.deltas;
 }
 
 pub returns-in_err-make_unit-clause-err : goal.returns-in_err-make_unit-clause-err
@@ -21,10 +20,6 @@ returns-in_err-make_unit-clause-err c =
     let Made : MachineValue → Type 0 = λ m. HasMade (Times c.loop.counter (IsUnitOf c.args.hart)) c.args.self.now m in
     when_err c.from_residual.result _
     (step_stopped c.args.hart c.loop.counter c.args.n c.args.self.now c.make_unit.new.self (omega arith) (subst Made (sym c.in_err-make_unit.ensures.err) c.loop.invariant.made))
-
-pub returns-in_err-make_unit-clause-unbuilt : goal.returns-in_err-make_unit-clause-unbuilt
-returns-in_err-make_unit-clause-unbuilt c = λ pc e.
-    subst (λ (m : MachineValue). MeetsUnbuiltAt (at_rest [] m.flat) pc c.args.hart) (sym c.in_err-make_unit.ensures.err) (c.in_err-make_unit.ensures.unbuilt pc (search rules))
 
 pub returns-clause-ok : goal.returns-clause-ok
 returns-clause-ok c =

@@ -1,0 +1,4 @@
+pub mod ReachLemmas
+pub mod UndoLemmas
+pub mod WorkLemmas
+pub mod ServedLemmas

@@ -1,0 +1,9 @@
+pub mod StayLemmas
+pub mod AfterLemmas
+pub mod FirstLemmas
+pub mod PairLemmas
+pub mod TreeLemmas
+pub mod StandLemmas
+pub mod KeepLemmas
+pub mod FrameLemmas
+pub mod ViewLemmas

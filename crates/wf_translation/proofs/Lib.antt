@@ -1,0 +1,4 @@
+pub mod NodeLemmas
+pub mod TableLemmas
+pub mod LeafLemmas
+pub mod ReadLemmas
