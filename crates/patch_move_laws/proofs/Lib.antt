@@ -1,0 +1,4 @@
+pub mod OutsideLemmas
+pub mod PlaceLemmas
+pub mod TextLemmas
+pub mod MoveLemmas

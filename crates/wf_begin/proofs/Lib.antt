@@ -1,0 +1,4 @@
+pub mod NumberLemmas
+pub mod RecordLemmas
+pub mod StartLemmas
+pub mod LaidLemmas

@@ -1,0 +1,3 @@
+pub mod LayLemmas
+pub mod WordLemmas
+pub mod EntryLemmas
