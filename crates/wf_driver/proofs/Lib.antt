@@ -7,6 +7,7 @@ pub mod ServingLemmas
 pub mod CarryLemmas
 pub mod PlaceLemmas
 pub mod ServedLemmas
+pub mod HousingLemmas
 pub mod KeepLemmas
 pub mod MadeLemmas
 pub mod TurnLemmas

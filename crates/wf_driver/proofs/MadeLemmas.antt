@@ -7,7 +7,7 @@ use Rattle.wf_flat.specs.Follows.{IsUnit}
 use Rattle.wf_legal.specs.Legal.{Moment, at_rest, end_of}
 use Rattle.wf_legal.proofs.JournalLemmas.{legal-append, end_of-append}
 use Rattle.wf_script.specs.declared.command.Command.{Command}
-use Rattle.wf_script.specs.declared.command.Command.TheVariants.{Step, Run, Patch, Create, Delete, Regs, Mem}
+use Rattle.wf_script.specs.declared.command.Command.TheVariants.{Step, Run, Patch, Create, Delete, Tables, Regs, Mem}
 use Rattle.wf_outside.specs.Images.{DeltaValue}
 use Rattle.wf_flat.specs.declared.event.Actor.{Actor}
 use Rattle.wf_verdict.specs.declared.requests.Request.{Request}
@@ -21,7 +21,12 @@ use Rattle.wf_follow.specs.Units.{IsTurn, IsUnitOf, Times}
 use Rattle.wf_follow.specs.Follows.{IsCallOf, IsCallOrWait, Obeys}
 use Rattle.wf_driver.specs.Machines.{MachineValue, moment_of, place_of, HasObeyed, HasStopped}
 use Rattle.wf_driver.specs.Making.{HasMade, with_listing}
-use Rattle.wf_driver.proofs.PlaceLemmas.{place_along, place_behind, shown, times_push}
+use Rattle.wf_driver.proofs.PlaceLemmas.{AreAlong, place_along, place_behind, shown, times_push}
+use Rattle.wf_driver.proofs.HousingLemmas.{IsAccounted, now_along, still_now}
+use Rattle.wf_driver.specs.Housing.{homes_now}
+use Rattle.home_laws.specs.Laws.{HomesSettle}
+use Rattle.wf_homes.specs.Homes.{Homes}
+use Rattle.wf_tables.specs.Tables.{tables_lines}
 use Rattle.wf_driver.proofs.ServedLemmas.{served_whole}
 
 -- nothing
@@ -42,55 +47,71 @@ made_push n One a b c old one =
     })
 
 -- a unit of a hart
-unit_from : (a b : MachineValue) (h : ℕ) → Adds (moment_of a) a.entries (moment_of b) b.entries (IsUnit h) → b.listings ≡ a.listings → b.last ≡ a.last
+unit_from : (a b : MachineValue) (h : ℕ) → (c : Adds (moment_of a) a.entries (moment_of b) b.entries (IsUnit h)) → AreAlong a c.made b.homes → b.listings ≡ a.listings → b.last ≡ a.last
     → length b.flat.harts ≡ length a.flat.harts → HasMade (IsUnitOf h) a b
-unit_from a b h c listings last harts =
+unit_from a b h c homes listings last harts =
     record {
       made = c.made;
       entries = c.appended;
       listings = listings;
       legal = c.legal;
       reached = c.reached;
-      fits = (c.fits, place_behind a b h c.made c.appended last c.reached harts);
+      fits = (c.fits, place_behind a b h c.made c.appended last c.reached homes harts);
     }
 
 -- what a unit leaves of a machine, whose parts are these
-pub unit_made : (deltas : List DeltaValue) (flat next : FlatState) (entries later : List Entry) (listings : List ListingValue) (last : Option ℕ) (m : MachineValue) (h : ℕ) → shown deltas flat entries listings last ≡ m
-    → Adds (at_rest deltas flat) entries (at_rest deltas next) later (IsUnit h) → length next.harts ≡ length flat.harts → HasMade (IsUnitOf h) m (shown deltas next later listings last)
-unit_made deltas flat next entries later listings last m h view c harts =
-    subst (λ (x : MachineValue). HasMade (IsUnitOf h) x (shown deltas next later listings last)) view
-    (unit_from (shown deltas flat entries listings last) (shown deltas next later listings last) h c refl refl harts)
+pub unit_made : (deltas : List DeltaValue) (flat next : FlatState) (entries later : List Entry) (listings : List ListingValue) (last : Option ℕ) (m : MachineValue) (h : ℕ) (old : Homes) (before : ℕ) (homes : Homes) (accounted : ℕ)
+    → shown deltas flat (homes_now old before entries flat) entries listings last ≡ m → IsAccounted flat entries old before homes accounted → next.inside ≡ None
+    → Adds (at_rest deltas flat) entries (at_rest deltas next) later (IsUnit h) → length next.harts ≡ length flat.harts → HasMade (IsUnitOf h) m (shown deltas next (homes_now homes accounted later next) later listings last)
+unit_made deltas flat next entries later listings last m h old before homes accounted view is outside c harts =
+    let a : MachineValue = shown deltas flat homes entries listings last in
+    let b : MachineValue = shown deltas next (homes_now homes accounted later next) later listings last in
+    let same : a ≡ m = ap (λ (x : Homes). shown deltas flat x entries listings last) is.now ∙ view in
+    subst (λ (x : MachineValue). HasMade (IsUnitOf h) x b) same
+    (unit_from a b h c (now_along deltas flat next entries later (IsUnit h) homes accounted is.all outside c) refl refl harts)
 
 -- and what an error leaves of it
-pub unmade : (deltas : List DeltaValue) (flat next : FlatState) (entries later : List Entry) (listings : List ListingValue) (last : Option ℕ) (m : MachineValue) → shown deltas flat entries listings last ≡ m
-    → next ≡ flat → later ≡ entries → shown deltas next later listings last ≡ m
-unmade deltas flat next entries later listings last m view f e =
-    ap (λ (x : FlatState). shown deltas x later listings last) f ∙ ap (λ (x : List Entry). shown deltas flat x listings last) e ∙ view
+pub unmade : HomesSettle → (deltas : List DeltaValue) (flat next : FlatState) (entries later : List Entry) (listings : List ListingValue) (last : Option ℕ) (m : MachineValue) (old : Homes) (before : ℕ) (homes : Homes) (accounted : ℕ)
+    → shown deltas flat (homes_now old before entries flat) entries listings last ≡ m → IsAccounted flat entries old before homes accounted
+    → next ≡ flat → later ≡ entries → shown deltas next (homes_now homes accounted later next) later listings last ≡ m
+unmade law deltas flat next entries later listings last m old before homes accounted view is f e =
+    ap (λ (x : FlatState). shown deltas x (homes_now homes accounted later x) later listings last) f ∙ ap (λ (x : List Entry). shown deltas flat (homes_now homes accounted x flat) x listings last) e
+    ∙ ap (λ (x : Homes). shown deltas flat x entries listings last) (still_now law flat entries old before homes accounted is) ∙ view
 
-pub same_harts : (deltas : List DeltaValue) (flat next : FlatState) (entries : List Entry) (listings : List ListingValue) (last : Option ℕ) (m : MachineValue) → shown deltas flat entries listings last ≡ m
+-- where the homes could not be brought up to date, nothing has changed
+pub unaccounted : (deltas : List DeltaValue) (flat : FlatState) (entries : List Entry) (listings : List ListingValue) (last : Option ℕ) (m : MachineValue) (old : Homes) (before : ℕ) (homes : Homes) (accounted : ℕ)
+    → shown deltas flat (homes_now old before entries flat) entries listings last ≡ m → homes ≡ old → accounted ≡ before → shown deltas flat (homes_now homes accounted entries flat) entries listings last ≡ m
+unaccounted deltas flat entries listings last m old before homes accounted view h n =
+    ap (λ (x : Homes). shown deltas flat (homes_now x accounted entries flat) entries listings last) h ∙ ap (λ (x : ℕ). shown deltas flat (homes_now old x entries flat) entries listings last) n ∙ view
+
+pub same_harts : (deltas : List DeltaValue) (flat next : FlatState) (homes : Homes) (entries : List Entry) (listings : List ListingValue) (last : Option ℕ) (m : MachineValue) → shown deltas flat homes entries listings last ≡ m
     → length next.harts ≡ length flat.harts → length next.harts ≡ length m.flat.harts
-same_harts deltas flat next entries listings last m view e = e ∙ ap (λ (x : MachineValue). length x.flat.harts) view
+same_harts deltas flat next homes entries listings last m view e = e ∙ ap (λ (x : MachineValue). length x.flat.harts) view
 
 -- a call of the kernel's own actor
-served_from : (a b : MachineValue) (request : Request) → a.flat.inside ≡ None → IsKernelRequest a.deltas request → Adds (moment_of a) a.entries (moment_of b) b.entries (IsServed request a.deltas a.flat) → b.listings ≡ a.listings → b.last ≡ a.last
+served_from : (a b : MachineValue) (request : Request) → a.flat.inside ≡ None → IsKernelRequest a.deltas request → (c : Adds (moment_of a) a.entries (moment_of b) b.entries (IsServed request a.deltas a.flat)) → AreAlong a c.made b.homes → b.listings ≡ a.listings → b.last ≡ a.last
     → length b.flat.harts ≡ length a.flat.harts → HasMade (IsCallOf request) a b
-served_from a b request outside may c listings last harts =
+served_from a b request outside may c homes listings last harts =
     record {
       made = c.made;
       entries = c.appended;
       listings = listings;
       legal = c.legal;
       reached = c.reached;
-      fits = (subst (λ (i : Option Actor). IsCallOrWait request i (place_of a) c.made) (sym outside) (served_whole request a.deltas a.flat c.made may c.fits), place_along a b c.made c.appended last c.reached harts);
+      fits = (subst (λ (i : Option Actor). IsCallOrWait request i (place_of a) c.made) (sym outside) (served_whole request a.deltas a.flat c.made may c.fits), place_along a b c.made c.appended last c.reached homes harts);
     }
 
-pub served_made : (deltas : List DeltaValue) (flat next : FlatState) (entries later : List Entry) (listings : List ListingValue) (last : Option ℕ) (m : MachineValue) (request : Request) → shown deltas flat entries listings last ≡ m
+pub served_made : (deltas : List DeltaValue) (flat next : FlatState) (entries later : List Entry) (listings : List ListingValue) (last : Option ℕ) (m : MachineValue) (request : Request) (old : Homes) (before : ℕ) (homes : Homes) (accounted : ℕ)
+    → shown deltas flat (homes_now old before entries flat) entries listings last ≡ m → IsAccounted flat entries old before homes accounted → next.inside ≡ None
     → flat.inside ≡ None → IsKernelRequest m.deltas request → Adds (at_rest deltas flat) entries (at_rest deltas next) later (IsServed request deltas flat) → length next.harts ≡ length flat.harts
-    → HasMade (IsCallOf request) m (shown deltas next later listings last)
-served_made deltas flat next entries later listings last m request view outside may c harts =
-    let old : MachineValue = shown deltas flat entries listings last in
+    → HasMade (IsCallOf request) m (shown deltas next (homes_now homes accounted later next) later listings last)
+served_made deltas flat next entries later listings last m request old before homes accounted view is after outside may c harts =
+    let a : MachineValue = shown deltas flat homes entries listings last in
+    let b : MachineValue = shown deltas next (homes_now homes accounted later next) later listings last in
+    let same : a ≡ m = ap (λ (x : Homes). shown deltas flat x entries listings last) is.now ∙ view in
     let own : IsKernelRequest deltas request = subst (λ (x : MachineValue). IsKernelRequest x.deltas request) (sym view) may in
-    subst (λ (x : MachineValue). HasMade (IsCallOf request) x (shown deltas next later listings last)) view (served_from old (shown deltas next later listings last) request outside own c refl refl harts)
+    subst (λ (x : MachineValue). HasMade (IsCallOf request) x b) same
+    (served_from a b request outside own c (now_along deltas flat next entries later (IsServed request deltas flat) homes accounted is.all after c) refl refl harts)
 
 -- so the command is obeyed whose entries are made in this way
 obeyed : (command : Command) (Way : Place → List Entry → Place → Type 0) (a b : MachineValue) → ((es : List Entry) → Way (place_of a) es (place_of b) → Obeys command (place_of a) es [] (place_of b))
@@ -129,10 +150,10 @@ pub run_stopped : (k n : ℕ) (a b : MachineValue) → k < n → HasMade (Times 
 run_stopped k n a b fewer made = record { cut = Run k; is_cut = fewer; obeyed = run_obeyed k a b made }
 
 -- one more listing of a machine, whose parts are these
-pub listed : (deltas : List DeltaValue) (flat : FlatState) (entries : List Entry) (listings more : List ListingValue) (last : Option ℕ) (m : MachineValue) (place : ℕ) (lines : List ℕ) → shown deltas flat entries listings last ≡ m
-    → place ≡ length entries → more ≡ listings ++ record { place = place; lines = lines } ∷ [] → shown deltas flat entries more last ≡ with_listing lines m
-listed deltas flat entries listings more last m place lines view placed is =
-    ap (λ (x : List ListingValue). shown deltas flat entries x last) (is ∙ ap (λ (x : ℕ). listings ++ record { place = x; lines = lines } ∷ []) placed) ∙ ap (with_listing lines) view
+pub listed : (deltas : List DeltaValue) (flat : FlatState) (homes : Homes) (entries : List Entry) (listings more : List ListingValue) (last : Option ℕ) (m : MachineValue) (place : ℕ) (lines : List ℕ) → shown deltas flat homes entries listings last ≡ m
+    → place ≡ length entries → more ≡ listings ++ record { place = place; lines = lines } ∷ [] → shown deltas flat homes entries more last ≡ with_listing lines m
+listed deltas flat homes entries listings more last m place lines view placed is =
+    ap (λ (x : List ListingValue). shown deltas flat homes entries x last) (is ∙ ap (λ (x : ℕ). listings ++ record { place = x; lines = lines } ∷ []) placed) ∙ ap (with_listing lines) view
 
 -- a listing at the place where the machine stands
 pub regs_obeyed : (h : ℕ) (lines : List ℕ) (a b : MachineValue) → lines ≡ regs_lines h a.flat → b ≡ with_listing lines a → HasObeyed (Regs h) a b
@@ -151,6 +172,19 @@ regs_obeyed h lines a b are is =
 pub mem_obeyed : (va n : ℕ) (lines : List ℕ) (a b : MachineValue) → lines ≡ mem_lines va n a.flat → b ≡ with_listing lines a → HasObeyed (Mem va n) a b
 mem_obeyed va n lines a b are is =
     subst (λ (m : MachineValue). HasObeyed (Mem va n) a m) (sym is)
+    (record {
+      made = [];
+      listed = record { place = length a.entries; lines = lines } ∷ [];
+      entries = sym (append-nil a.entries);
+      listings = refl;
+      legal = tt;
+      reached = refl;
+      obeys = record { block = (refl, refl); listing = record { lines = lines; is = refl; are = are } };
+    })
+
+pub tables_obeyed : (generation : ℕ) (lines : List ℕ) (a b : MachineValue) → lines ≡ tables_lines generation a.homes a.flat → b ≡ with_listing lines a → HasObeyed (Tables generation) a b
+tables_obeyed generation lines a b are is =
+    subst (λ (m : MachineValue). HasObeyed (Tables generation) a m) (sym is)
     (record {
       made = [];
       listed = record { place = length a.entries; lines = lines } ∷ [];

@@ -4,17 +4,18 @@ use Rattle.wf_flat.specs.declared.event.Entry.{Entry}
 use Rattle.wf_flat.specs.Lists.{changed_at}
 use Rattle.wf_flat.specs.State.{FlatState, HartState}
 use Rattle.wf_flat.proofs.ListLemmas.{changed_next}
+use Rattle.wf_homes.specs.Homes.{Homes}
 use Rattle.wf_legal.specs.Legal.{Moment, end_of}
 use Rattle.wf_outside.specs.Images.{DeltaValue}
 use Rattle.wf_report.specs.Listings.{ListingValue}
-use Rattle.wf_follow.specs.Places.{Place, behind, paced, unticked}
+use Rattle.wf_follow.specs.Places.{Place, behind, homes_along, paced, unticked}
 use Rattle.wf_follow.specs.Units.{Times}
 use Rattle.wf_driver.specs.Machines.{MachineValue, moment_of, place_of}
 
 -- a machine, by its parts
-abbrev pub shown : List DeltaValue → FlatState → List Entry → List ListingValue → Option ℕ → MachineValue
-shown deltas flat entries listings last =
-    record { deltas = deltas; flat = flat; entries = entries; listings = listings; last = last }
+abbrev pub shown : List DeltaValue → FlatState → Homes → List Entry → List ListingValue → Option ℕ → MachineValue
+shown deltas flat homes entries listings last =
+    record { deltas = deltas; flat = flat; homes = homes; entries = entries; listings = listings; last = last }
 
 -- a zero for each hart
 abbrev pub zeros : List HartState → List ℕ
@@ -33,29 +34,33 @@ zeros_changed (x ∷ xs) (suc h) =
     changed_next 0 (zeros xs) h (λ pace. 0) ∙ ap (λ (zs : List ℕ). 0 ∷ zs) (zeros_changed xs h)
 
 -- a place of a machine, by its parts
-abbrev place : Moment → ℕ → Option ℕ → List ℕ → Place
-place moment made last paces =
-    record { moment = moment; made = made; last = last; begun = None; paces = paces; ticked = unticked }
+abbrev place : Moment → Homes → ℕ → Option ℕ → List ℕ → Place
+place moment homes made last paces =
+    record { moment = moment; homes = homes; made = made; last = last; begun = None; paces = paces; ticked = unticked }
 
-same_place : (m n : Moment) (i j : ℕ) (a b : Option ℕ) (xs ys : List ℕ) → m ≡ n → i ≡ j → a ≡ b → xs ≡ ys → place m i a xs ≡ place n j b ys
-same_place m n i j a b xs ys p q r s =
-    ap (λ (x : Moment). place x i a xs) p ∙ ap (λ (x : ℕ). place n x a xs) q ∙ ap (λ (x : Option ℕ). place n j x xs) r ∙ ap (λ (x : List ℕ). place n j b x) s
+same_place : (m n : Moment) (h k : Homes) (i j : ℕ) (a b : Option ℕ) (xs ys : List ℕ) → m ≡ n → h ≡ k → i ≡ j → a ≡ b → xs ≡ ys → place m h i a xs ≡ place n k j b ys
+same_place m n h k i j a b xs ys p e q r s =
+    ap (λ (x : Moment). place x h i a xs) p ∙ ap (λ (x : Homes). place n x i a xs) e ∙ ap (λ (x : ℕ). place n k x a xs) q ∙ ap (λ (x : Option ℕ). place n k j x xs) r ∙ ap (λ (x : List ℕ). place n k j b x) s
+
+-- these are the homes of a machine behind entries
+abbrev pub AreAlong : MachineValue → List Entry → Homes → Type 0
+AreAlong old made homes = homes ≡ homes_along old.homes made (end_of (moment_of old) made).flat
 
 -- the place behind entries of a hart
 pub place_behind : (old new : MachineValue) (h : ℕ) (made : List Entry) → new.entries ≡ old.entries ++ made → new.last ≡ old.last
-    → moment_of new ≡ end_of (moment_of old) made → length new.flat.harts ≡ length old.flat.harts
+    → moment_of new ≡ end_of (moment_of old) made → AreAlong old made new.homes → length new.flat.harts ≡ length old.flat.harts
     → place_of new ≡ paced h 0 (behind (place_of old) made)
-place_behind old new h made entries last reached harts =
-    same_place (moment_of new) (end_of (moment_of old) made) (length new.entries) (length old.entries + length made) new.last old.last
-    (zeros new.flat.harts) (changed_at (zeros old.flat.harts) h (λ pace. 0)) reached
+place_behind old new h made entries last reached homes harts =
+    same_place (moment_of new) (end_of (moment_of old) made) new.homes (homes_along old.homes made (end_of (moment_of old) made).flat) (length new.entries) (length old.entries + length made) new.last old.last
+    (zeros new.flat.harts) (changed_at (zeros old.flat.harts) h (λ pace. 0)) reached homes
     (ap (λ (es : List Entry). length es) entries ∙ length-append old.entries made) last
     (zeros_same new.flat.harts old.flat.harts harts ∙ sym (zeros_changed old.flat.harts h))
 
 -- and behind those of the kernel's own actor
 pub place_along : (old new : MachineValue) (made : List Entry) → new.entries ≡ old.entries ++ made → new.last ≡ old.last
-    → moment_of new ≡ end_of (moment_of old) made → length new.flat.harts ≡ length old.flat.harts → place_of new ≡ behind (place_of old) made
-place_along old new made entries last reached harts =
-    same_place (moment_of new) (end_of (moment_of old) made) (length new.entries) (length old.entries + length made) new.last old.last (zeros new.flat.harts) (zeros old.flat.harts) reached
+    → moment_of new ≡ end_of (moment_of old) made → AreAlong old made new.homes → length new.flat.harts ≡ length old.flat.harts → place_of new ≡ behind (place_of old) made
+place_along old new made entries last reached homes harts =
+    same_place (moment_of new) (end_of (moment_of old) made) new.homes (homes_along old.homes made (end_of (moment_of old) made).flat) (length new.entries) (length old.entries + length made) new.last old.last (zeros new.flat.harts) (zeros old.flat.harts) reached homes
     (ap (λ (es : List Entry). length es) entries ∙ length-append old.entries made) last (zeros_same new.flat.harts old.flat.harts harts)
 
 -- one more of a way

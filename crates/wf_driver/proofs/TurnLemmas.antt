@@ -17,7 +17,6 @@ use Rattle.wf_flat.specs.declared.event.Entry.{Entry}
 use Rattle.wf_flat.specs.State.{FlatState, HartState}
 use Rattle.wf_flat.specs.Steps.{OfHart}
 use Rattle.wf_effects.specs.Generations.{is_running}
-use Rattle.wf_legal.specs.Legal.{end_of}
 use Rattle.wf_outside.specs.Images.{DeltaValue}
 use Rattle.wf_service.specs.Resting.{IsResting}
 use Rattle.wf_report.specs.Listings.{ListingValue}
@@ -26,9 +25,15 @@ use Rattle.wf_follow.specs.Units.{IsTurn, IsTurnOf, IsUnitOf, hart_in_turn, lowe
 use Rattle.wf_driver.proofs.StepLemmas.{allowed_outside}
 use Rattle.wf_driver.specs.Machines.{MachineValue, moment_of, place_of}
 use Rattle.wf_driver.specs.Making.{HasMade}
-use Rattle.wf_driver.specs.Keeping.{IsReady}
-use Rattle.wf_driver.proofs.KeepLemmas.{ready_on}
-use Rattle.wf_driver.proofs.PlaceLemmas.{place_behind, shown}
+use Rattle.wf_driver.specs.Housing.{homes_now}
+use Rattle.wf_driver.specs.Keeping.{IsKept, IsReady}
+use Rattle.wf_homes.specs.Homes.{Homes}
+use Rattle.wf_legal.specs.Legal.{at_rest}
+use Rattle.wf_service.specs.Adding.{Adds}
+use Rattle.home_laws.specs.Laws.{HomesSettle, HomesStay}
+use Rattle.wf_driver.proofs.HousingLemmas.{IsAccounted, now_along}
+use Rattle.wf_driver.proofs.KeepLemmas.{kept_on}
+use Rattle.wf_driver.proofs.PlaceLemmas.{AreAlong, place_behind, shown}
 
 abbrev given : ℕ → Option ℕ
 given h = Some h
@@ -181,52 +186,66 @@ turned_from a b h turn made =
           (made.fits.0, ap (λ (p : Place). record p { last = Some h }) made.fits.1);
     }
 
--- an idle of hart 0, where no hart runs
-idled_from : (a : MachineValue) → IsResting a.flat → 1 ≤ length a.flat.harts → hart_in_turn (place_of a) ≡ None → HasMade IsTurn a (record a { entries = a.entries ++ only (Hart 0) Idle })
-idled_from a rests some turn =
-    let idle : List Entry = only (Hart 0) Idle in
-    let next : MachineValue = record a { entries = a.entries ++ idle } in
-    let inside : a.flat.inside ≡ None = rests.no_one in
-    let first = first_stopped a.flat some (neither (lowest_running (number_behind a.last) 0 a.flat.harts) (lowest_running 0 0 a.flat.harts) turn) in
-    let reached : moment_of a ≡ end_of (moment_of a) idle = rw inside refl in
+-- what an idle of hart 0 makes, where no hart runs
+pub idle_adds : (deltas : List DeltaValue) (flat : FlatState) (entries later : List Entry) (last : Option ℕ) → IsResting flat → 1 ≤ length flat.harts
+    → option_or (lowest_running (number_behind last) 0 flat.harts) (lowest_running 0 0 flat.harts) ≡ None → later ≡ entries ++ only (Hart 0) Idle
+    → Adds (at_rest deltas flat) entries (at_rest deltas flat) later (λ es. es ≡ only (Hart 0) Idle)
+idle_adds deltas flat entries later last rests some turn is =
+    let inside : flat.inside ≡ None = rests.no_one in
+    let first = first_stopped flat some (neither (lowest_running (number_behind last) 0 flat.harts) (lowest_running 0 0 flat.harts) turn) in
     record {
-      made = idle;
-      entries = refl;
-      listings = refl;
-      legal = (allowed_outside (moment_of a) 0 Idle inside first, tt);
-      reached = reached;
-      fits = subst (λ (o : Option ℕ). IsTurnOf o (place_of a) idle (place_of next)) (sym turn) (refl, place_behind a next 0 idle refl refl reached refl);
+      made = only (Hart 0) Idle;
+      appended = is;
+      legal = (allowed_outside (at_rest deltas flat) 0 Idle inside first, tt);
+      reached = rw inside refl;
+      fits = refl;
+    }
+
+idled_from : (a b : MachineValue) → hart_in_turn (place_of a) ≡ None → (c : Adds (moment_of a) a.entries (moment_of b) b.entries (λ es. es ≡ only (Hart 0) Idle)) → AreAlong a c.made b.homes → b.listings ≡ a.listings → b.last ≡ a.last
+    → length b.flat.harts ≡ length a.flat.harts → HasMade IsTurn a b
+idled_from a b turn c homes listings last harts =
+    record {
+      made = c.made;
+      entries = c.appended;
+      listings = listings;
+      legal = c.legal;
+      reached = c.reached;
+      fits = subst (λ (o : Option ℕ). IsTurnOf o (place_of a) c.made (place_of b)) (sym turn) (c.fits, place_behind a b 0 c.made c.appended last c.reached homes harts);
     }
 
 -- a turn of a hart leaves a machine with these parts
-pub turned : (a b : MachineValue) (deltas : List DeltaValue) (flat : FlatState) (entries : List Entry) (listings : List ListingValue) (last : Option ℕ) (h : ℕ) → hart_in_turn (place_of a) ≡ Some h → HasMade (IsUnitOf h) a b
-    → shown deltas flat entries listings last ≡ b → HasMade IsTurn a (shown deltas flat entries listings (Some h))
-turned a b deltas flat entries listings last h turn made view =
+pub turned : (a b : MachineValue) (deltas : List DeltaValue) (flat : FlatState) (homes : Homes) (entries : List Entry) (listings : List ListingValue) (last : Option ℕ) (h : ℕ) → hart_in_turn (place_of a) ≡ Some h → HasMade (IsUnitOf h) a b
+    → shown deltas flat homes entries listings last ≡ b → HasMade IsTurn a (shown deltas flat homes entries listings (Some h))
+turned a b deltas flat homes entries listings last h turn made view =
     subst (λ (m : MachineValue). HasMade IsTurn a (record m { last = Some h })) (sym view) (turned_from a b h turn made)
 
 -- a turn where no hart runs
-pub idled : (deltas : List DeltaValue) (flat : FlatState) (entries later : List Entry) (listings : List ListingValue) (last : Option ℕ) (m : MachineValue) → shown deltas flat entries listings last ≡ m
-    → IsResting flat → 1 ≤ length flat.harts → hart_in_turn (place_of m) ≡ None → later ≡ entries ++ only (Hart 0) Idle → HasMade IsTurn m (shown deltas flat later listings last)
-idled deltas flat entries later listings last m view rests some turn is =
-    let old : MachineValue = shown deltas flat entries listings last in
-    let turn_of_old : hart_in_turn (place_of old) ≡ None = ap (λ (x : MachineValue). hart_in_turn (place_of x)) view ∙ turn in
-    subst (λ (x : MachineValue). HasMade IsTurn x (shown deltas flat later listings last)) view
-    (subst (λ (es : List Entry). HasMade IsTurn old (shown deltas flat es listings last)) (sym is) (idled_from old rests some turn_of_old))
+pub idled : (deltas : List DeltaValue) (flat : FlatState) (entries later : List Entry) (listings : List ListingValue) (last : Option ℕ) (m : MachineValue) (old : Homes) (before : ℕ) (homes : Homes) (accounted : ℕ)
+    → shown deltas flat (homes_now old before entries flat) entries listings last ≡ m → IsAccounted flat entries old before homes accounted
+    → IsResting flat → 1 ≤ length flat.harts → hart_in_turn (place_of m) ≡ None → later ≡ entries ++ only (Hart 0) Idle → HasMade IsTurn m (shown deltas flat (homes_now homes accounted later flat) later listings last)
+idled deltas flat entries later listings last m old before homes accounted view accounts rests some turn is =
+    let a : MachineValue = shown deltas flat homes entries listings last in
+    let b : MachineValue = shown deltas flat (homes_now homes accounted later flat) later listings last in
+    let same : a ≡ m = ap (λ (x : Homes). shown deltas flat x entries listings last) accounts.now ∙ view in
+    let turn_of_a : hart_in_turn (place_of a) ≡ None = ap (λ (x : MachineValue). hart_in_turn (place_of x)) same ∙ turn in
+    let c = idle_adds deltas flat entries later last rests some turn_of_a is in
+    subst (λ (x : MachineValue). HasMade IsTurn x b) same
+    (idled_from a b turn_of_a c (now_along deltas flat flat entries later (λ es. es ≡ only (Hart 0) Idle) homes accounted accounts.all rests.no_one c) refl refl refl)
 
 -- what the machine keeps, behind such a turn
-pub idle_ready : (deltas : List DeltaValue) (flat : FlatState) (entries later : List Entry) (listings : List ListingValue) (last : Option ℕ) (m : MachineValue) → shown deltas flat entries listings last ≡ m
-    → IsReady deltas flat entries → hart_in_turn (place_of m) ≡ None → later ≡ entries ++ only (Hart 0) Idle → IsReady deltas flat later
-idle_ready deltas flat entries later listings last m view ready turn is =
-    let old : MachineValue = shown deltas flat entries listings last in
-    let turn_of_old : hart_in_turn (place_of old) ≡ None = ap (λ (x : MachineValue). hart_in_turn (place_of x)) view ∙ turn in
-    let made = idled_from old ready.rests ready.some turn_of_old in
-    subst (IsReady deltas flat) (sym is)
-    (ready_on deltas flat flat entries (entries ++ only (Hart 0) Idle) (λ es. Unit {0}) ready (record { made = made.made; appended = made.entries; legal = made.legal; reached = made.reached; fits = tt }) ready.rests refl)
+pub idle_kept : HomesSettle → HomesStay → (deltas : List DeltaValue) (flat : FlatState) (entries later : List Entry) (listings : List ListingValue) (last : Option ℕ) (m : MachineValue) (old : Homes) (before : ℕ) (homes : Homes) (accounted : ℕ)
+    → shown deltas flat (homes_now old before entries flat) entries listings last ≡ m → IsAccounted flat entries old before homes accounted
+    → IsReady deltas flat entries → hart_in_turn (place_of m) ≡ None → later ≡ entries ++ only (Hart 0) Idle → IsKept deltas flat later homes accounted
+idle_kept settle stay deltas flat entries later listings last m old before homes accounted view accounts ready turn is =
+    let a : MachineValue = shown deltas flat (homes_now old before entries flat) entries listings last in
+    let turn_of_a : hart_in_turn (place_of a) ≡ None = ap (λ (x : MachineValue). hart_in_turn (place_of x)) view ∙ turn in
+    let c = idle_adds deltas flat entries later last ready.rests ready.some turn_of_a is in
+    kept_on settle stay deltas flat flat entries later (λ es. es ≡ only (Hart 0) Idle) old before homes accounted accounts ready c ready.rests refl
 
 -- whose turn it is in a machine, whose parts are these
-pub next_found : (deltas : List DeltaValue) (flat : FlatState) (entries : List Entry) (listings : List ListingValue) (last : Option ℕ) (m : MachineValue) (above first : Option ℕ) (number : ℕ) → shown deltas flat entries listings last ≡ m
+pub next_found : (deltas : List DeltaValue) (flat : FlatState) (entries : List Entry) (listings : List ListingValue) (last : Option ℕ) (m : MachineValue) (above first : Option ℕ) (number : ℕ) (homes : Homes) → shown deltas flat homes entries listings last ≡ m
     → number ≡ number_behind last → above ≡ lowest_running number 0 flat.harts → first ≡ lowest_running 0 0 flat.harts → option_or above first ≡ hart_in_turn (place_of m)
-next_found deltas flat entries listings last m above first number view n a f =
+next_found deltas flat entries listings last m above first number homes view n a f =
     ap (λ (x : Option ℕ). option_or x first) (a ∙ ap (λ (k : ℕ). lowest_running k 0 flat.harts) n)
     ∙ ap (λ (x : Option ℕ). option_or (lowest_running (number_behind last) 0 flat.harts) x) f
     ∙ ap (λ (x : MachineValue). hart_in_turn (place_of x)) view

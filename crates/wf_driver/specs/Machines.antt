@@ -5,6 +5,7 @@ use Rattle.wf_outside.specs.Pages.{LimitsValue}
 use Rattle.wf_flat.specs.declared.event.Entry.{Entry}
 use Rattle.wf_flat.specs.Boot.{boot_of}
 use Rattle.wf_flat.specs.State.{FlatState}
+use Rattle.wf_homes.specs.Homes.{Homes, homes_at_boot}
 use Rattle.wf_legal.specs.Legal.{IsLegal, Moment, at_rest, end_of}
 use Rattle.wf_script.specs.declared.command.Command.{Command}
 use Rattle.wf_report.specs.Listings.{ListingValue}
@@ -12,11 +13,12 @@ use Rattle.wf_follow.specs.Places.{Place, unticked}
 use Rattle.wf_follow.specs.Follows.{Obeys}
 use Rattle.wf_follow.specs.Unbuilt.{IsCut}
 
--- a machine, without where it lies in memory: the patches of its run, its state, its journal, its
--- listings with their places, and the hart that `run` stepped last
+-- a machine, without where it lies in memory: the patches of its run, its state, the homes of pages
+-- and nodes, its journal, its listings with their places, and the hart that `run` stepped last
 pub record MachineValue : Type 0 where
   pub deltas : List DeltaValue
   pub flat : FlatState
+  pub homes : Homes
   pub entries : List Entry
   pub listings : List ListingValue
   pub last : Option ℕ
@@ -26,6 +28,7 @@ abbrev pub machine_at : List DeltaValue → ImageValue → ℕ → LimitsValue �
 machine_at deltas image harts limits = record {
   deltas = deltas;
   flat = boot_of image harts limits;
+  homes = homes_at_boot (boot_of image harts limits);
   entries = [];
   listings = [];
   last = None;
@@ -39,6 +42,7 @@ moment_of machine = at_rest machine.deltas machine.flat
 abbrev pub place_of : MachineValue → Place
 place_of machine = record {
   moment = moment_of machine;
+  homes = machine.homes;
   made = length machine.entries;
   last = machine.last;
   begun = None;

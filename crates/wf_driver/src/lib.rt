@@ -4,6 +4,7 @@
 
 mod actions;
 mod finding;
+mod housing;
 mod loading;
 mod machine;
 mod meeting;

@@ -14,8 +14,10 @@ ghost use Rattle.wf_follow.specs.Unbuilt.{is_built_command};
 ghost use Rattle.wf_driver.specs.Machines.{machine_at, place_of, HasObeyed, HasStopped, StandsBetween};
 ghost use Rattle.wf_driver.specs.Making.{HasMade, with_listing};
 
+use crate::housing::account;
 use crate::stepping::step;
 use crate::wholeness::{data_is_whole, limits_are_sizes, text_is_whole};
+use home_laws::{homes_settle, homes_stay};
 use std::alloc::Global;
 use std::marker::Model;
 use std::mem;
@@ -25,6 +27,7 @@ use wf_report::{Listing, mem_listing, regs_listing, report};
 use wf_request::serve_kernel;
 use wf_script::Command;
 use wf_sound::{births_are_few, journals_keep_sound, starts_are_sound};
+use wf_tables::{Homes, tables_listing};
 use wf_verdict::Request;
 
 // Whether a hart runs.
@@ -73,12 +76,15 @@ fn entries_are_few(entries: &[Entry])
     let _bytes = mem::size_of_val(entries);
 }
 
-/// A machine that runs a script: the patches of the run, the state of the flat machine, which is at
-/// rest, the journal so far, the listings at their places, and the hart that `run` stepped last.
+/// A machine that runs a script: the patches of the run; the state of the flat machine, which is at
+/// rest; where everything lay behind the first `accounted` entries; the journal so far; the listings
+/// at their places; and the hart that `run` stepped last.
 #[derive(Drop)]
 pub struct Machine {
     deltas: Vec<Delta>,
     flat: Flat,
+    homes: Homes,
+    accounted: usize,
     entries: Vec<Entry>,
     listings: Vec<Listing>,
     last: Option<u8>,
@@ -86,19 +92,22 @@ pub struct Machine {
 
 impl Model for Machine {
     ghost use Rattle.wf_driver.specs.Machines.{MachineValue};
-    ghost use Rattle.wf_driver.specs.Keeping.{IsReady};
+    ghost use Rattle.wf_driver.specs.Housing.{homes_now};
+    ghost use Rattle.wf_driver.specs.Keeping.{IsKept};
 
     ghost Value = { MachineValue };
 
     ghost view = { λ m. record {
       deltas = m.deltas.items;
       flat = m.flat;
+      homes = homes_now m.homes m.accounted m.entries.items m.flat;
       entries = m.entries.items;
       listings = m.listings.items;
       last = m.last;
     } };
 
-    ghost invariant = { λ m. IsReady m.deltas.items m.flat m.entries.items };
+    ghost invariant = { λ m.
+        IsKept m.deltas.items m.flat m.entries.items m.homes m.accounted };
 }
 
 impl Machine {
@@ -131,9 +140,14 @@ impl Machine {
         text_is_whole(&image.text);
         data_is_whole(&image.pages);
         limits_are_sizes(limits);
+        homes_settle();
+        let flat = boot(alloc, image, harts, limits)?;
+        let homes = Homes::boot(alloc, &flat)?;
         Ok(Machine {
             deltas,
-            flat: boot(alloc, image, harts, limits)?,
+            flat,
+            homes,
+            accounted: 0,
             entries: Vec::new(alloc),
             listings: Vec::new(alloc),
             last: None,
@@ -163,17 +177,35 @@ impl Machine {
         journals_keep_sound();
         births_are_few();
         entries_are_few(&self.entries);
+        homes_settle();
+        homes_stay();
+        account(
+            alloc,
+            &mut self.homes,
+            &mut self.accounted,
+            &self.entries,
+            &self.flat,
+        )?;
         step(alloc, &mut self.flat, &self.deltas, &mut self.entries, hart)
     }
 
     // A turn where no hart runs: hart 0 idles. After an error nothing has changed.
-    fn idle(&mut self) -> Result<(), Memory>
+    fn idle(&mut self, alloc: Global) -> Result<(), Memory>
         requires { hart_in_turn (place_of self.old) ≡ None }
         ensures ok { OnOk result (HasMade IsTurn self.old self.new) }
         ensures err { OnErr result (self.new ≡ self.old) }
         ensures harts { length self.new.flat.harts ≡ length self.old.flat.harts }
         ensures deltas { self.new.deltas ≡ self.old.deltas }
     {
+        homes_settle();
+        homes_stay();
+        account(
+            alloc,
+            &mut self.homes,
+            &mut self.accounted,
+            &self.entries,
+            &self.flat,
+        )?;
         self.entries.push(Entry {
             actor: Actor::Hart(0),
             event: Event::Idle,
@@ -194,7 +226,7 @@ impl Machine {
                 self.last = Some(hart);
                 Ok(())
             }
-            None => self.idle(),
+            None => self.idle(alloc),
         }
     }
 
@@ -236,6 +268,15 @@ impl Machine {
         journals_keep_sound();
         births_are_few();
         entries_are_few(&self.entries);
+        homes_settle();
+        homes_stay();
+        account(
+            alloc,
+            &mut self.homes,
+            &mut self.accounted,
+            &self.entries,
+            &self.flat,
+        )?;
         serve_kernel(
             alloc,
             &mut self.flat,
@@ -323,8 +364,27 @@ impl Machine {
         self.push_listing(lines)
     }
 
+    // The listing of a generation's page table. After an error nothing has changed.
+    fn list_tables(&mut self, alloc: Global, generation: u32) -> Result<(), Memory>
+        ensures ok { OnOk result (HasObeyed (Command.Tables generation) self.old self.new) }
+        ensures err { OnErr result (self.new ≡ self.old) }
+        ensures harts { length self.new.flat.harts ≡ length self.old.flat.harts }
+        ensures deltas { self.new.deltas ≡ self.old.deltas }
+    {
+        homes_settle();
+        account(
+            alloc,
+            &mut self.homes,
+            &mut self.accounted,
+            &self.entries,
+            &self.flat,
+        )?;
+        let lines = tables_listing(alloc, generation, &self.homes, &self.flat)?;
+        self.push_listing(lines)
+    }
+
     /// Carries out a command. `Step` and `Run` make whole units, `Patch`, `Create` and `Delete` a
-    /// whole call of the kernel's own actor, `Regs` and `Mem` a listing.
+    /// whole call of the kernel's own actor, `Tables`, `Regs` and `Mem` a listing.
     ///
     /// # Errors
     ///
@@ -351,7 +411,7 @@ impl Machine {
             Command::Create { generation } => self.create(alloc, generation),
             Command::Delete { generation } => self.delete(alloc, generation),
             Command::Tick { .. } => unreachable!(),
-            Command::Tables { .. } => unreachable!(),
+            Command::Tables { generation } => self.list_tables(alloc, generation),
         }
     }
 

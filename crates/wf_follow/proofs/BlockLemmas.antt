@@ -7,7 +7,7 @@ use Rattle.wf_verdict.specs.declared.requests.Request.TheVariants.{Clones, Delet
 use Rattle.wf_legal.specs.Legal.{IsLegal, end_of}
 use Rattle.wf_next.specs.Determined.{HartsAreDetermined}
 use Rattle.wf_script.specs.declared.command.Command.{Command}
-use Rattle.wf_script.specs.declared.command.Command.TheVariants.{Create, Delete, Mem, Patch, Regs, Run, Step}
+use Rattle.wf_script.specs.declared.command.Command.TheVariants.{Create, Delete, Mem, Patch, Regs, Run, Step, Tables}
 use Rattle.wf_follow.specs.Places.{Place, behind}
 use Rattle.wf_follow.specs.Units.{IsTurn, IsUnitOf}
 use Rattle.wf_follow.specs.Requests.{IsWholeCall}
@@ -55,4 +55,5 @@ block_way law (Create generation) built = call_way (Clones generation)
 block_way law (Delete generation) built = call_way (Deletes generation)
 block_way law (Regs hart) built = stays_way
 block_way law (Mem va n) built = stays_way
+block_way law (Tables generation) built = stays_way
 block_way law command built = absurd (cc)

@@ -7,7 +7,7 @@ use Rattle.wf_next.specs.Determined.{HartsAreDetermined}
 use Rattle.wf_report.specs.Listings.{ListingValue}
 use Rattle.wf_report.specs.Reports.{report_bytes}
 use Rattle.wf_script.specs.declared.command.Command.{Command}
-use Rattle.wf_script.specs.declared.command.Command.TheVariants.{Create, Delete, Mem, Patch, Regs, Run, Step}
+use Rattle.wf_script.specs.declared.command.Command.TheVariants.{Create, Delete, Mem, Patch, Regs, Run, Step, Tables}
 use Rattle.wf_follow.specs.Places.{Place, place_at}
 use Rattle.wf_follow.specs.Follows.{Follows, HasListing, IsBlock, IsListing}
 use Rattle.wf_follow.specs.Unbuilt.{AreBuilt, is_built_command}
@@ -33,6 +33,7 @@ listings_same (Create generation) p one other built u v = u ∙ sym v
 listings_same (Delete generation) p one other built u v = u ∙ sym v
 listings_same (Regs hart) p one other built u v = listing_same p one other _ u v
 listings_same (Mem va n) p one other built u v = listing_same p one other _ u v
+listings_same (Tables generation) p one other built u v = listing_same p one other _ u v
 listings_same command p one other built u v = absurd (cc)
 
 -- what follows a script is one

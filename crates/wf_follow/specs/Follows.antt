@@ -10,6 +10,7 @@ use Rattle.wf_verdict.specs.declared.requests.Request.TheVariants.{Clones, Delet
 use Rattle.wf_script.specs.declared.command.Command.{Command}
 use Rattle.wf_script.specs.declared.command.Command.TheVariants as command
 use Rattle.wf_report.specs.Listings.{ListingValue, mem_lines, regs_lines}
+use Rattle.wf_tables.specs.Tables.{tables_lines}
 use Rattle.wf_follow.specs.Places.{Place, behind}
 use Rattle.wf_follow.specs.Units.{IsTurn, IsUnitOf, Stays, Times, only}
 use Rattle.wf_follow.specs.Requests.{IsWholeCall}
@@ -58,9 +59,10 @@ pub record HasListing (p : Place) (listings : List ListingValue) (Are : List ℕ
   pub is : listings ≡ record { place = p.made; lines = lines } ∷ []
   pub are : Are lines
 
--- What a command lists at a place. Of page tables nothing is said before the machine has them.
+-- what a command lists at a place
 abbrev pub IsListing : Command → Place → List ListingValue → Type 0
-IsListing (command.Tables generation) p listings = HasListing p listings (λ lines. Unit {0})
+IsListing (command.Tables generation) p listings =
+    HasListing p listings (λ lines. lines ≡ tables_lines generation p.homes p.moment.flat)
 IsListing (command.Regs hart) p listings =
     HasListing p listings (λ lines. lines ≡ regs_lines hart p.moment.flat)
 IsListing (command.Mem va n) p listings =

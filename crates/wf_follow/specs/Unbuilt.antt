@@ -4,8 +4,7 @@ use Rattle.std.specs.List.{AllByRecursion}
 use Rattle.wf_script.specs.declared.command.Command.{Command}
 use Rattle.wf_script.specs.declared.command.Command.TheVariants.{Step, Tick, Run, Patch, Create, Delete, Tables, Regs, Mem}
 
--- the command is built: it is none of ticks, nor one that makes a patch ready for them, nor of page
--- tables
+-- the command is built: it is none of ticks, nor one that makes a patch ready for them
 abbrev pub is_built_command : Command → Bool
 is_built_command (Step h n) = true
 is_built_command (Run n) = true
@@ -15,7 +14,7 @@ is_built_command (Patch index begin) = not begin
 is_built_command (Create generation) = true
 is_built_command (Delete generation) = true
 is_built_command (Tick actor n) = false
-is_built_command (Tables generation) = false
+is_built_command (Tables generation) = true
 
 -- the line of the first command that is not built; each command has its line
 abbrev pub first_unbuilt : List Command → List ℕ → Option ℕ

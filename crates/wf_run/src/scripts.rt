@@ -45,12 +45,11 @@ fn is_built_command(command: Command) -> bool
     ensures { result ≡ is_built_command command }
 {
     match command {
-        Command::Step { .. } | Command::Run { .. } | Command::Regs { .. } | Command::Mem { .. } => {
-            true
-        }
+        Command::Step { .. } | Command::Run { .. } => true,
         Command::Patch { begin, .. } => !begin,
         Command::Create { .. } | Command::Delete { .. } => true,
-        Command::Tick { .. } | Command::Tables { .. } => false,
+        Command::Tables { .. } | Command::Regs { .. } | Command::Mem { .. } => true,
+        Command::Tick { .. } => false,
     }
 }
 

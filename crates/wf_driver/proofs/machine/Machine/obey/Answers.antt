@@ -49,3 +49,9 @@ returns-in-Delete-clause-ok c = subst (λ (x : Command). OnOk c.delete.result (H
 
 pub returns-in-Delete-clause-memory : goal.returns-in-Delete-clause-memory
 returns-in-Delete-clause-memory c = on_err_weaker c.delete.result (λ s. inl s) c.delete.ensures.err
+
+pub returns-in-Tables-clause-ok : goal.returns-in-Tables-clause-ok
+returns-in-Tables-clause-ok c = subst (λ (x : Command). OnOk c.list_tables.result (HasObeyed x c.args.self.now c.list_tables.new.self)) (sym c.in-Tables.is) c.list_tables.ensures.ok
+
+pub returns-in-Tables-clause-memory : goal.returns-in-Tables-clause-memory
+returns-in-Tables-clause-memory c = on_err_weaker c.list_tables.result (λ s. inl s) c.list_tables.ensures.err

@@ -1,0 +1,14 @@
+use Rattle.std.proofs.Common.{◌∙◌, ◌++◌, ℕ, List, sym, ap}
+use Rattle.std.proofs.lemmas.List.{append-nil}
+use Rattle.wf_tables.proofs.PartLemmas.{uppers_more, uppers_none}
+use Rattle.wf_tables.proofs.listing.push_lowers.Goals as goal
+
+pub loop-i-init : goal.loop-i-init
+loop-i-init c = λ homes is.
+    sym (append-nil c.args.out.now.items)
+    ∙ ap (λ (ns : List ℕ). c.args.out.now.items ++ ns) (sym (uppers_none homes c.args.flat.now c.args.generation 0 c.args.prefix c.args.frame))
+
+pub loop-i-preserved : goal.loop-i-preserved
+loop-i-preserved c = λ homes is.
+    uppers_more homes c.args.flat.now c.args.generation 0 c.args.prefix c.args.frame c.loop-i.i c.args.out.now.items c.loop-i.out.items c.push_lower.new.out.items
+    (c.loop-i.invariant homes is) (c.in_ok-push_lower.ensures homes is)
