@@ -13,6 +13,8 @@ use Rattle.asm_lines.specs.Choice.{◌>>=◌}
 use Rattle.asm_lines.specs.Operands.{in_parentheses, pair}
 use Rattle.asm_lines.specs.Registers.{register_of}
 
+-- the width of an operation, and whether it has acquire and release semantics, as the dialect
+-- writes them
 abbrev pub order : Bool → Bool → Bool → Option Order
 order wide aq rl = Some (record { wide = wide; aq = aq; rl = rl })
 
@@ -47,11 +49,15 @@ three_with_address args = do
   rs1 ← in_parentheses q.1
   Some (rd, rs2, rs1)
 
+-- a store-conditional of this width and order: the register of its answer, the one that is stored,
+-- and the address
 unfoldable pub sc : Order → List ℕ → Option Inst
 sc o args = do
   r ← three_with_address args
   Some (Sc o.wide o.aq o.rl r.0 r.2 r.1)
 
+-- an atomic memory operation of this width and order: the register of what was read, the operand,
+-- and the address
 unfoldable pub amo : AmoOp → Order → List ℕ → Option Inst
 amo op o args = do
   r ← three_with_address args
@@ -70,6 +76,7 @@ atomic_named name o args =
 abbrev pub head_len : List ℕ → ℕ
 head_len mnemonic = unwrap_or (place_of 46 mnemonic) (length mnemonic)
 
+-- an instruction of the A extension: its name, and behind that the suffix of width and order
 unfoldable pub atomic : List ℕ → List ℕ → Option Inst
 atomic mnemonic args = do
   o ← order_of (drop (head_len mnemonic) mnemonic)

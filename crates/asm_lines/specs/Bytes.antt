@@ -6,6 +6,7 @@ use Rattle.std.specs.List.{suffix_len, list_all}
 abbrev pub is_blank : ℕ → Bool
 is_blank b = b == 32 || b == 9
 
+-- a decimal digit
 abbrev pub is_digit : ℕ → Bool
 is_digit b = nat_le 48 b && nat_le b 57
 
@@ -14,6 +15,7 @@ abbrev pub is_name_start : ℕ → Bool
 is_name_start b =
     (nat_le 65 b && nat_le b 90) || (nat_le 97 b && nat_le b 122) || b == 95 || b == 46 || b == 36
 
+-- a byte that may stand in a name behind its first
 abbrev pub is_name_byte : ℕ → Bool
 is_name_byte b = is_name_start b || is_digit b
 
@@ -42,6 +44,7 @@ trimmed_start text = drop (place_or_end (λ b. not (is_blank b)) text) text
 abbrev pub trimmed_end : List ℕ → List ℕ
 trimmed_end text = take (length text - suffix_len is_blank text) text
 
+-- a text without spaces and tabs at its start and end
 abbrev pub trimmed : List ℕ → List ℕ
 trimmed text = trimmed_end (trimmed_start text)
 

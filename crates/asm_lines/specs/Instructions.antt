@@ -41,6 +41,7 @@ load_kind mnemonic =
     else if bytes_eq mnemonic (codes "lwu") then Some (4, false)
     else None
 
+-- a load, by its name: the register, and the address that it reads
 unfoldable pub load : List ℕ → List ℕ → Option Inst
 load mnemonic args = do
   kind ← load_kind mnemonic
@@ -56,6 +57,7 @@ store_width mnemonic =
     else if bytes_eq mnemonic (codes "sd") then Some 8
     else None
 
+-- a store, by its name: the register that is stored, and the address
 unfoldable pub store : List ℕ → List ℕ → Option Inst
 store mnemonic args = do
   width ← store_width mnemonic
@@ -78,6 +80,7 @@ upper n =
     then (n -ℤ pos (2 ^ 20)) *ℤ pos (2 ^ 12)
     else unfit
 
+-- `lui` and `auipc`: the register, and the number for bits 31 to 12
 unfoldable pub upper_inst : List ℕ → List ℕ → Option Inst
 upper_inst mnemonic args =
     if bytes_eq mnemonic (codes "lui")
@@ -115,6 +118,7 @@ jal_to rd target =
     (option_map (λ off. Plain (Jal rd off)) (immediate_of target))
     (option_map (λ name. Named (use_.Jal rd) name) (name_of target))
 
+-- `jal`, with a register and a name or with a name alone
 unfoldable pub jal : List ℕ → List ℕ → Option Asked
 jal mnemonic args =
     if bytes_eq mnemonic (codes "jal") then (do

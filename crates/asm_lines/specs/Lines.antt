@@ -16,6 +16,7 @@ pub record LineValue : Type 0 where
   pub label : Option (List ℕ)
   pub asked : Asked
 
+-- a line of the code, without where it lies in memory
 abbrev pub line_value : Line → LineValue
 line_value l = record { label = option_copied l.label; asked = asked l.statement }
 

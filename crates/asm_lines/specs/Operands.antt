@@ -23,6 +23,7 @@ unfit = pos (2 ^ 63 - 1)
 abbrev pub immediate : ℤ → ℤ
 immediate z = if int_le (pos 0 -ℤ pos (2 ^ 63)) z && int_le z (pos (2 ^ 63 - 1)) then z else unfit
 
+-- the number that an operand writes, as an immediate
 abbrev pub immediate_of : List ℕ → Option ℤ
 immediate_of text = option_map immediate (number_of text)
 

@@ -19,6 +19,7 @@ pub data Asked : Type 0 where
   Plain : Inst → Asked
   Named : Use → List ℕ → Asked
 
+-- what a statement of the code asks for
 abbrev pub asked : Statement → Asked
 asked code.Empty = Empty
 asked (code.Section id) = Section id

@@ -1,5 +1,5 @@
 //! The files of a case, and what its last command put.
-use crate::words::text_of;
+use crate::words::new_text;
 use anyhow::{Result, bail};
 use elf_builder::ElfBuilder;
 use std::alloc::Global;
@@ -52,7 +52,7 @@ impl Bench {
                 return Ok(());
             }
         }
-        let name = text_of(self.alloc, name)?;
+        let name = new_text(self.alloc, name)?;
         self.files.push((name, bytes))?;
         Ok(())
     }
@@ -80,7 +80,7 @@ impl Bench {
     fn copied(&self) -> Result<Vec<(Text, Vec<u8>)>> {
         let mut files = Vec::new(self.alloc);
         for file in &self.files {
-            let name = text_of(self.alloc, file.0.bytes())?;
+            let name = new_text(self.alloc, file.0.bytes())?;
             files.push((name, file.1.to_vec(self.alloc)?))?;
         }
         Ok(files)

@@ -5,7 +5,7 @@ use wf_outside::{Memory, Text};
 use wf_text::{any_hex_of, decimal_of, split_word, without_spaces};
 
 /// A text of these bytes.
-pub fn text_of(alloc: Global, bytes: &[u8]) -> Result<Text> {
+pub fn new_text(alloc: Global, bytes: &[u8]) -> Result<Text> {
     match Text::of(alloc, bytes) {
         Ok(text) => Ok(text),
         Err(Memory) => bail!("memory"),
@@ -59,7 +59,7 @@ pub fn words_of(alloc: Global, line: &[u8]) -> Result<Vec<Text>> {
         } else {
             word
         };
-        words.push(text_of(alloc, word)?)?;
+        words.push(new_text(alloc, word)?)?;
         rest = without_spaces(more);
     }
     Ok(words)

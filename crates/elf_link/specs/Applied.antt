@@ -18,14 +18,14 @@ use Rattle.elf_link.specs.Results.{and_then, or_told}
 use Rattle.elf_link.specs.Values.{formula_value, paired_value, within}
 
 -- the number in the field at a place
-abbrev pub number_at : Field → List ℕ → ℕ → ℕ
-number_at field bytes at = little_number (width_of field) (drop at bytes)
+abbrev pub number_in_field : Field → List ℕ → ℕ → ℕ
+number_in_field field bytes at = little_number (width_of field) (drop at bytes)
 
 -- the bytes with a value put into the field at a place
 abbrev pub with_value : Field → List ℕ → ℕ → ℤ → List ℕ
 with_value field bytes at v =
     take at bytes
-    ++ little_bytes (width_of field) (put_in field v (number_at field bytes at))
+    ++ little_bytes (width_of field) (put_in field v (number_in_field field bytes at))
     ++ drop (at + width_of field) bytes
 
 -- the bytes with the value put into the field at a place, where the field is inside them, and there
@@ -33,7 +33,7 @@ with_value field bytes at v =
 abbrev pub put_at : Field → List ℕ → ℕ → (ℕ → Result ℤ LinkRule) → Result (List ℕ) LinkRule
 put_at field bytes at value =
     if nat_le (at + width_of field) (length bytes)
-    then and_then (value (number_at field bytes at)) (λ v. Ok (with_value field bytes at v))
+    then and_then (value (number_in_field field bytes at)) (λ v. Ok (with_value field bytes at v))
     else Err Offset
 
 -- the bytes after what an entry's type does, if its number is one of the table

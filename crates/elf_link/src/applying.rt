@@ -3,7 +3,7 @@ ghost use Rattle.std.specs.Prelude.{◌≡◌, ◌<◌, ◌≤◌, ◌+◌, ◌*
 ghost use Rattle.byteorder.specs.Endian.{little_bytes};
 ghost use Rattle.elf_fields.specs.Fields.{width_of};
 ghost use Rattle.elf_read.specs.Relas.{symbol_number};
-ghost use Rattle.elf_link.specs.Applied.{number_at, with_value, applied_as, applied};
+ghost use Rattle.elf_link.specs.Applied.{number_in_field, with_value, applied_as, applied};
 ghost use Rattle.elf_fields.specs.declared.relocation.Relocation.TheVariants.{Put, Paired};
 ghost use Rattle.elf_link.specs.Links.{place_in};
 ghost use Rattle.elf_link.specs.Results.{Leaves};
@@ -18,16 +18,16 @@ use patch_rules::LinkRule;
 // The number in the field at a place.
 fn number_in(field: Field, bytes: &[u8], at: u64) -> u64
     requires { at + width_of field ≤ length bytes.now }
-    ensures value { result ≡ number_at field bytes.now at }
+    ensures value { result ≡ number_in_field field bytes.now at }
     ensures fits { result < 2 ^ (8 * width_of field) }
 {
     LittleEndian::read_uint(&bytes[at as usize..], field.width())
 }
 
 // The number in the field at a place, where the field is inside the bytes.
-fn number_at(field: Field, bytes: &[u8], at: u64) -> Result<u64, LinkRule>
+fn number_in_field(field: Field, bytes: &[u8], at: u64) -> Result<u64, LinkRule>
     ensures inside { IfOk result (λ number. at + width_of field ≤ length bytes.now) }
-    ensures value { IfOk result (λ number. number ≡ number_at field bytes.now at) }
+    ensures value { IfOk result (λ number. number ≡ number_in_field field bytes.now at) }
     ensures outside { IfErr result (λ rule. length bytes.now < at + width_of field) }
     ensures offset { IfErr result (λ rule. rule ≡ LinkRule.Offset) }
 {
@@ -74,7 +74,7 @@ impl Linking<'_> {
         ensures { Leaves result bytes.new
             (applied_as self.now bytes.old rela.now (Some (Put formula field bounds))) }
     {
-        let old = number_at(field, bytes, rela.r_offset)?;
+        let old = number_in_field(field, bytes, rela.r_offset)?;
         let value = self.formula_value(formula, rela, self.place + rela.r_offset, old)?;
         put_value(field, bytes, rela.r_offset, within(bounds, value)?);
         Ok(())
@@ -86,7 +86,7 @@ impl Linking<'_> {
         ensures { Leaves result bytes.new
             (applied_as self.now bytes.old rela.now (Some (Paired field))) }
     {
-        number_at(field, bytes, rela.r_offset)?;
+        number_in_field(field, bytes, rela.r_offset)?;
         let value = self.paired_value(rela)?;
         put_value(field, bytes, rela.r_offset, within(Bounds::Pair, value)?);
         Ok(())

@@ -53,15 +53,15 @@ map-none f (Some x) e = cc
 found-none : {X : Type 0} (p : X → Bool) (xs : List X) → position p xs ≡ None → length xs ≤ position_or_len p xs
 found-none p xs e = grind (arith, nat_tests)
 
-holds : (b : Bool) → not b ≡ false → b ≡ true
-holds true e = refl
-holds false e = cc
+not_not : (b : Bool) → not b ≡ false → b ≡ true
+not_not true e = refl
+not_not false e = cc
 
 -- where the rule is not broken, the test holds of each record
 pub each_holds : {X : Type 0} (test : X → Bool) (rule : ElfRule) (at size : ℕ) (xs : List X) → None ≡ unless_each test rule at size xs → (k : ℕ) (d : X) → k < length xs → test (get_or xs k d) ≡ true
 each_holds test rule at size xs e k d h =
     let past = found-none (λ x. not (test x)) xs (map-none _ _ e) in
-    holds _ (fails_before_first (λ x. not (test x)) xs k d (omega arith))
+    not_not _ (fails_before_first (λ x. not (test x)) xs k d (omega arith))
 
 -- what is true where none of some rules is broken
 pub none_first : (x : Option ElfFault) (xs : List (Option ElfFault)) → None ≡ first_of (x ∷ xs) → (None ≡ x) × (None ≡ first_of xs)

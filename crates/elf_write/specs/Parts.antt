@@ -40,9 +40,11 @@ symbol_table symbols = replicate 24 0 ++ symbols_from 1 symbols
 abbrev pub locals : List ModSymbol → List ModSymbol
 locals symbols = filter (λ s. not s.global) symbols
 
+-- the global symbols that the file defines
 abbrev pub globals : List ModSymbol → List ModSymbol
 globals symbols = filter (λ s. s.global && not (s.section == 0)) symbols
 
+-- the global symbols that other files define
 abbrev pub undefined : List ModSymbol → List ModSymbol
 undefined symbols = filter (λ s. s.global && s.section == 0) symbols
 

@@ -16,9 +16,11 @@ rounded_up n at = (at + (n - 1)) / n * n
 abbrev pub halves : List ℕ → List ℕ
 halves numbers = flat_map (little_bytes 2) numbers
 
+-- numbers as words of four bytes, the lowest byte first
 abbrev pub words : List ℕ → List ℕ
 words numbers = flat_map (little_bytes 4) numbers
 
+-- numbers as doublewords of eight bytes, the lowest byte first
 abbrev pub xwords : List ℕ → List ℕ
 xwords numbers = flat_map (little_bytes 8) numbers
 

@@ -25,10 +25,12 @@ section_front s =
     words (s.sh_name ∷ s.sh_type ∷ [])
     ++ xwords (s.sh_flags ∷ s.sh_addr ∷ s.sh_offset ∷ s.sh_size ∷ [])
 
+-- the last four fields of a section header
 unfoldable pub section_back : Section → List ℕ
 section_back s =
     words (s.sh_link ∷ s.sh_info ∷ []) ++ xwords (s.sh_addralign ∷ s.sh_entsize ∷ [])
 
+-- a section header
 abbrev pub section_bytes : Section → List ℕ
 section_bytes s = section_front s ++ section_back s
 

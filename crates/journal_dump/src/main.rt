@@ -5,7 +5,7 @@
 #![tactic(auto)]
 
 ghost use Rattle.std.specs.Prelude.{◌≡◌, IfOk};
-ghost use Rattle.journal_dump.specs.Texts.{text_of};
+ghost use Rattle.journal_dump.specs.Texts.{journal_text};
 
 use anyhow::{Result, bail};
 use std::alloc::Global;
@@ -36,8 +36,8 @@ fn journal_in<R: Env + Files + AllocGlobal>(rt: &R, name: &[u8]) -> Result<Journ
 }
 
 // The text of a journal without its listings.
-fn text_of(alloc: Global, journal: &Journal) -> Result<Vec<u8>, Memory>
-    ensures { IfOk result (λ text. text.items ≡ text_of journal.now) }
+fn journal_text(alloc: Global, journal: &Journal) -> Result<Vec<u8>, Memory>
+    ensures { IfOk result (λ text. text.items ≡ journal_text journal.now) }
 {
     let mut out = Vec::new(alloc);
     push_header(
@@ -61,7 +61,7 @@ fn print_counts(rt: &impl Print, journal: &Journal) -> Result<()> {
 
 // A journal, printed again.
 fn print_journal(rt: &impl Print, alloc: Global, journal: &Journal) -> Result<()> {
-    match text_of(alloc, journal) {
+    match journal_text(alloc, journal) {
         Ok(text) => Ok(rt.write_all(&text)?),
         Err(Memory) => bail!("memory"),
     }

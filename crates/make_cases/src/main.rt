@@ -20,7 +20,7 @@ const MOST_FUNCTIONS: u64 = 10_000;
 // A file: its name, and its bytes.
 type File = (Text, Vec<u8>);
 
-fn text_of(alloc: Global, word: &str) -> Result<Text> {
+fn new_text(alloc: Global, word: &str) -> Result<Text> {
     match Text::of(alloc, word.as_bytes()) {
         Ok(text) => Ok(text),
         Err(Memory) => bail!("memory"),
@@ -31,7 +31,7 @@ fn text_of(alloc: Global, word: &str) -> Result<Text> {
 fn answer(alloc: Global, words: &[&str], files: Vec<File>) -> Result<(Status, Vec<u8>)> {
     let mut texts = Vec::new(alloc);
     for word in words {
-        texts.push(text_of(alloc, word)?)?;
+        texts.push(new_text(alloc, word)?)?;
     }
     let mut shelf = MemShelf::new(alloc, files, Vec::new(alloc));
     let mut sink = MemSink::new(alloc, Vec::new(alloc));
@@ -74,7 +74,7 @@ fn print_files<R: Print + AllocGlobal>(rt: &R, functions: u64) -> Result<()> {
         println!(rt; "{status}")?;
         return Ok(());
     }
-    files.push((text_of(alloc, "report.txt")?, report))?;
+    files.push((new_text(alloc, "report.txt")?, report))?;
     let (status, put) = answer(alloc, &["check", "prog.elf", "report.txt"], files)?;
     print_answer(rt, status, &put)
 }

@@ -32,20 +32,20 @@ use Rattle.patch_build.specs.Jumps.{can_jump, has_jump, has_page, jump_from, jum
 use Rattle.patch_build.specs.Layout.{all_pages, area_fault, pages_of, places_of, starts_of}
 use Rattle.patch_build.specs.Links.{LinkedValue, linked_of, link_fault}
 use Rattle.patch_build.specs.Names.{common_fault, names_of}
-use Rattle.patch_build.specs.Pages.{bytes_of, data_page, text_page}
+use Rattle.patch_build.specs.Pages.{bytes_of, page_of_data, page_of_text}
 use Rattle.patch_build.specs.Sections.{section_fault}
 use Rattle.patch_build.specs.declared.naming.Wanted.TheVariants.{Functions}
 use Rattle.elf_syms.specs.Telling.{told_of}
 use Rattle.patch_build.specs.declared.constants.TheConstants.{MOST_PATCH_PAGES}
 
 -- pages of numbers in a row
-text_row : (bytes : List ℕ) (first k n : ℕ) → text_numbers (map (text_page bytes first) (range_with_len k n)) ≡ range_with_len (first + k) n
+text_row : (bytes : List ℕ) (first k n : ℕ) → text_numbers (map (page_of_text bytes first) (range_with_len k n)) ≡ range_with_len (first + k) n
 text_row bytes first k zero = refl
 text_row bytes first k (suc n) =
     let e : first + (k + 1) ≡ first + k + 1 = omega arith in
     ap (λ (l : List ℕ). (first + k) ∷ l) (text_row bytes first (k + 1) n ∙ ap (λ (m : ℕ). range_with_len m n) e)
 
-data_row : (bytes : List ℕ) (first : ℕ) (write : Bool) (k n : ℕ) → data_numbers (map (data_page bytes first write) (range_with_len k n)) ≡ range_with_len (first + k) n
+data_row : (bytes : List ℕ) (first : ℕ) (write : Bool) (k n : ℕ) → data_numbers (map (page_of_data bytes first write) (range_with_len k n)) ≡ range_with_len (first + k) n
 data_row bytes first write k zero = refl
 data_row bytes first write k (suc n) =
     let e : first + (k + 1) ≡ first + k + 1 = omega arith in
@@ -68,13 +68,13 @@ words_length n bytes = length-map-range_with_len _ 0 n
 
 -- each page is whole
 text_whole : (bytes : List ℕ) (first k n : ℕ) → first + (k + n) ≤ DATA_END_PAGE
-    → AllByRecursion (λ page. IsPage page.number page.words) (map (text_page bytes first) (range_with_len k n))
+    → AllByRecursion (λ page. IsPage page.number page.words) (map (page_of_text bytes first) (range_with_len k n))
 text_whole bytes first k zero low = tt
 text_whole bytes first k (suc n) low =
     (record { whole = words_length PAGE_WORDS _; low = omega arith }, text_whole bytes first (k + 1) n (omega arith))
 
 data_whole : (bytes : List ℕ) (first : ℕ) (write : Bool) (k n : ℕ) → first + (k + n) ≤ DATA_END_PAGE
-    → AllByRecursion (λ page. IsPage page.number page.words) (map (data_page bytes first write) (range_with_len k n))
+    → AllByRecursion (λ page. IsPage page.number page.words) (map (page_of_data bytes first write) (range_with_len k n))
 data_whole bytes first write k zero low = tt
 data_whole bytes first write k (suc n) low =
     (record { whole = words_length PAGE_WORDS _; low = omega arith }, data_whole bytes first write (k + 1) n (omega arith))
@@ -86,17 +86,17 @@ both P (x ∷ xs) ys all also = (all.0, both P xs ys all.1 also)
 -- pages of three regions, one behind the other
 rows : (text constants variables : List ℕ) (next m n k : ℕ) (jumps : List Jump) → next + (m + n + k) ≤ DATA_END_PAGE
     → HasPages next (record {
-      private = map (text_page text next) (range_with_len 0 m);
-      shared = map (data_page constants (next + m) false) (range_with_len 0 n) ++ map (data_page variables (next + m + n) true) (range_with_len 0 k);
+      private = map (page_of_text text next) (range_with_len 0 m);
+      shared = map (page_of_data constants (next + m) false) (range_with_len 0 n) ++ map (page_of_data variables (next + m + n) true) (range_with_len 0 k);
       jumps = jumps;
     })
 rows text constants variables next m n k jumps low =
-    let private : List PageValue = map (text_page text next) (range_with_len 0 m) in
-    let some : List DataPageValue = map (data_page constants (next + m) false) (range_with_len 0 n) in
-    let more : List DataPageValue = map (data_page variables (next + m + n) true) (range_with_len 0 k) in
-    let lm : length private ≡ m = length-map-range_with_len (text_page text next) 0 m in
-    let ln : length some ≡ n = length-map-range_with_len (data_page constants (next + m) false) 0 n in
-    let lk : length more ≡ k = length-map-range_with_len (data_page variables (next + m + n) true) 0 k in
+    let private : List PageValue = map (page_of_text text next) (range_with_len 0 m) in
+    let some : List DataPageValue = map (page_of_data constants (next + m) false) (range_with_len 0 n) in
+    let more : List DataPageValue = map (page_of_data variables (next + m + n) true) (range_with_len 0 k) in
+    let lm : length private ≡ m = length-map-range_with_len (page_of_text text next) 0 m in
+    let ln : length some ≡ n = length-map-range_with_len (page_of_data constants (next + m) false) 0 n in
+    let lk : length more ≡ k = length-map-range_with_len (page_of_data variables (next + m + n) true) 0 k in
     let l : length (some ++ more) ≡ n + k = length-append some more ∙ ap (λ (x : ℕ). x + length more) ln ∙ ap (λ (x : ℕ). n + x) lk in
     record {
       private = text_row text next 0 m ∙ ap (λ (a : ℕ). range_with_len a m) (omega arith) ∙ ap (λ (x : ℕ). range_with_len next x) (sym lm);
@@ -114,16 +114,16 @@ rows text constants variables next m n k jumps low =
 
 rows_end : (text constants variables : List ℕ) (next m n k : ℕ) (jumps : List Jump)
     → next + (m + n + k) ≡ next_behind next (record {
-      private = map (text_page text next) (range_with_len 0 m);
-      shared = map (data_page constants (next + m) false) (range_with_len 0 n) ++ map (data_page variables (next + m + n) true) (range_with_len 0 k);
+      private = map (page_of_text text next) (range_with_len 0 m);
+      shared = map (page_of_data constants (next + m) false) (range_with_len 0 n) ++ map (page_of_data variables (next + m + n) true) (range_with_len 0 k);
       jumps = jumps;
     })
 rows_end text constants variables next m n k jumps =
-    let some : List DataPageValue = map (data_page constants (next + m) false) (range_with_len 0 n) in
-    let more : List DataPageValue = map (data_page variables (next + m + n) true) (range_with_len 0 k) in
-    let lm = length-map-range_with_len (text_page text next) 0 m in
-    let ln = length-map-range_with_len (data_page constants (next + m) false) 0 n in
-    let lk = length-map-range_with_len (data_page variables (next + m + n) true) 0 k in
+    let some : List DataPageValue = map (page_of_data constants (next + m) false) (range_with_len 0 n) in
+    let more : List DataPageValue = map (page_of_data variables (next + m + n) true) (range_with_len 0 k) in
+    let lm = length-map-range_with_len (page_of_text text next) 0 m in
+    let ln = length-map-range_with_len (page_of_data constants (next + m) false) 0 n in
+    let lk = length-map-range_with_len (page_of_data variables (next + m + n) true) 0 k in
     let l : length (some ++ more) ≡ n + k = length-append some more ∙ ap (λ (x : ℕ). x + length more) ln ∙ ap (λ (x : ℕ). n + x) lk in
     omega (arith, lm, l)
 

@@ -9,7 +9,7 @@ use Rattle.elf_read.specs.declared.records.Section.{Section}
 use Rattle.patch_build.specs.declared.region.Region.{Region}
 use Rattle.patch_build.specs.declared.constants.TheConstants.{MOST_PATCH_PAGES}
 use Rattle.patch_build.specs.declared.region.Region.TheVariants.{Text, Constants, Data}
-use Rattle.patch_build.specs.Layout.{all_pages, end_with, end_of}
+use Rattle.patch_build.specs.Layout.{all_pages, end_with, region_end}
 use Rattle.patch_build.specs.Sections.{is_of, alignment_of}
 
 -- a number rounded up to a multiple of another
@@ -83,7 +83,7 @@ end-le region at bt [] le = le
 end-le region at bt (s ∷ ss) le = end-le region (end_with region at s) (end_with region bt s) ss (end_with-le region at bt s le)
 
 -- where there are few pages, the ends are low
-pub end_of-few : (region : Region) (ss : List Section) → all_pages ss ≤ MOST_PATCH_PAGES → end_of region ss < 2 ^ 32
-end_of-few Text ss few = omega arith
-end_of-few Constants ss few = omega arith
-end_of-few Data ss few = omega arith
+pub region_end-few : (region : Region) (ss : List Section) → all_pages ss ≤ MOST_PATCH_PAGES → region_end region ss < 2 ^ 32
+region_end-few Text ss few = omega arith
+region_end-few Constants ss few = omega arith
+region_end-few Data ss few = omega arith

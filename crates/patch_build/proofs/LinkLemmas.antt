@@ -15,11 +15,11 @@ use Rattle.elf_read.specs.Elf.{ElfValue}
 use Rattle.elf_syms.specs.Names.{NamesValue}
 use Rattle.patch_build.specs.declared.constants.TheConstants.{MOST_PATCH_PAGES}
 use Rattle.patch_build.specs.declared.layout.Ends.{Ends}
-use Rattle.patch_build.specs.Layout.{HasRoom, all_pages, end_of, end_with, offset_behind}
+use Rattle.patch_build.specs.Layout.{HasRoom, all_pages, region_end, end_with, offset_behind}
 use Rattle.patch_build.specs.Links.{AreSized, LinkedValue, linked_as, linked_at, linked_from}
 use Rattle.patch_build.specs.Pages.{bytes_behind, bytes_with, padded}
 use Rattle.patch_build.specs.Sections.{has_flag, is_loaded, is_of}
-use Rattle.patch_build.proofs.LayoutLemmas.{end-grows, end-le, end_of-few}
+use Rattle.patch_build.proofs.LayoutLemmas.{end-grows, end-le, region_end-few}
 
 zip-push : {A B : Type 0} (P : A → B → Type 0) (xs : List A) (ys : List B) (x : A) (y : B) → AllZip P xs ys → P x y → AllZip P (xs ++ x ∷ []) (ys ++ y ∷ [])
 zip-push P [] [] x y all p = (p, tt)
@@ -113,17 +113,17 @@ ends-room region ss i d at top lt so_far =
     omega arith
 
 pub ends-room-few : (region : Region) (ss : List Section) (i : ℕ) (d : Section) (at n : ℕ) → all_pages ss ≤ MOST_PATCH_PAGES → i < length ss → n ≡ at
-    → fold (end_with region) at (drop i ss) ≤ end_of region ss → end_with region n (get_or ss i d) < 2 ^ 32
+    → fold (end_with region) at (drop i ss) ≤ region_end region ss → end_with region n (get_or ss i d) < 2 ^ 32
 ends-room-few region ss i d at n few lt same so_far =
-    let h = ends-room region ss i d at (end_of region ss) lt so_far in
-    let k = end_of-few region ss few in
+    let h = ends-room region ss i d at (region_end region ss) lt so_far in
+    let k = region_end-few region ss few in
     subst (λ (m : ℕ). end_with region m (get_or ss i d) < 2 ^ 32) (sym same) (omega (arith, h, k))
 
 -- in each region
 pub places-room : (ends : Ends) (ss : List Section) (i : ℕ) (d : Section) → all_pages ss ≤ MOST_PATCH_PAGES → i < length ss
-    → fold (end_with Text) ends.text (drop i ss) ≡ end_of Text ss
-    → fold (end_with Constants) ends.constants (drop i ss) ≡ end_of Constants ss
-    → fold (end_with Data) ends.variables (drop i ss) ≡ end_of Data ss
+    → fold (end_with Text) ends.text (drop i ss) ≡ region_end Text ss
+    → fold (end_with Constants) ends.constants (drop i ss) ≡ region_end Constants ss
+    → fold (end_with Data) ends.variables (drop i ss) ≡ region_end Data ss
     → HasRoom ends (get_or ss i d)
 places-room ends ss i d few lt text constants variables Text = ends-room-few Text ss i d ends.text ends.text few lt refl (omega (arith, text))
 places-room ends ss i d few lt text constants variables Constants = ends-room-few Constants ss i d ends.constants ends.constants few lt refl (omega (arith, constants))

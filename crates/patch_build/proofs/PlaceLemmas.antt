@@ -10,7 +10,7 @@ use Rattle.patch_build.specs.declared.layout.Ends.{Ends}
 use Rattle.patch_build.specs.declared.layout.Starts.{Starts}
 use Rattle.patch_build.specs.declared.region.Region.{Region}
 use Rattle.patch_build.specs.declared.region.Region.TheVariants.{Text, Constants, Data}
-use Rattle.patch_build.specs.Layout.{AreStarts, ends_with, end_in, end_of, end_with, first_page, no_ends, offset_behind, places_behind}
+use Rattle.patch_build.specs.Layout.{AreStarts, ends_with, end_in, region_end, end_with, first_page, no_ends, offset_behind, places_behind}
 use Rattle.patch_build.specs.Links.{HasPlaces}
 use Rattle.patch_build.specs.Sections.{has_flag, is_loaded, is_of, region_of}
 use Rattle.patch_build.proofs.LayoutLemmas.{end-grows}
@@ -80,9 +80,9 @@ low-behind starts ends (x ∷ ss) fits (suc n) place s placed is =
 
 -- the regions fit where their pages do
 pub fits-starts : (starts : Starts) (ss : List Section) → AreStarts starts ss → Fits starts no_ends ss
-fits-starts starts ss are Text = let h = are.text in let k = are.constants in let l = are.variables in let m = are.low in omega (arith, div_ceil_times (end_of Text ss) PAGE_SIZE)
-fits-starts starts ss are Constants = let h = are.text in let k = are.constants in let l = are.variables in let m = are.low in omega (arith, div_ceil_times (end_of Constants ss) PAGE_SIZE)
-fits-starts starts ss are Data = let h = are.text in let k = are.constants in let l = are.variables in let m = are.low in omega (arith, div_ceil_times (end_of Data ss) PAGE_SIZE)
+fits-starts starts ss are Text = let h = are.text in let k = are.constants in let l = are.variables in let m = are.low in omega (arith, div_ceil_times (region_end Text ss) PAGE_SIZE)
+fits-starts starts ss are Constants = let h = are.text in let k = are.constants in let l = are.variables in let m = are.low in omega (arith, div_ceil_times (region_end Constants ss) PAGE_SIZE)
+fits-starts starts ss are Data = let h = are.text in let k = are.constants in let l = are.variables in let m = are.low in omega (arith, div_ceil_times (region_end Data ss) PAGE_SIZE)
 
 -- where a section begins in its region, there is room for it
 pub room_at : (region : Region) (at : ℕ) (s : Section) → is_loaded s ≡ true → region_of s ≡ region → end_with region at s < 2 ^ 32 → offset_behind at s + s.sh_size < 2 ^ 32

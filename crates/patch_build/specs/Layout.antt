@@ -23,12 +23,12 @@ abbrev pub end_with : Region → ℕ → Section → ℕ
 end_with region at s = if is_of region s then offset_behind at s + s.sh_size else at
 
 -- where the sections of a region end, from its start
-abbrev pub end_of : Region → List Section → ℕ
-end_of region sections = fold (end_with region) 0 sections
+abbrev pub region_end : Region → List Section → ℕ
+region_end region sections = fold (end_with region) 0 sections
 
 -- how many pages a region takes; one without sections takes none
 abbrev pub pages_of : Region → List Section → ℕ
-pages_of region sections = div_ceil (end_of region sections) PAGE_SIZE
+pages_of region sections = div_ceil (region_end region sections) PAGE_SIZE
 
 -- how many pages a patch takes
 abbrev pub all_pages : List Section → ℕ

@@ -41,25 +41,25 @@ abbrev pub words_of : List ℕ → ℕ → List ℕ
 words_of bytes k = words_in PAGE_WORDS (slice_range bytes (PAGE_SIZE * k) (PAGE_SIZE * k + PAGE_SIZE))
 
 -- page k of text in these bytes, from this page on
-abbrev pub text_page : List ℕ → ℕ → ℕ → PageValue
-text_page bytes first k = record { number = first + k; words = words_of bytes k }
+abbrev pub page_of_text : List ℕ → ℕ → ℕ → PageValue
+page_of_text bytes first k = record { number = first + k; words = words_of bytes k }
 
 -- page k of data
-abbrev pub data_page : List ℕ → ℕ → Bool → ℕ → DataPageValue
-data_page bytes first write k =
+abbrev pub page_of_data : List ℕ → ℕ → Bool → ℕ → DataPageValue
+page_of_data bytes first write k =
     record { number = first + k; write = write; words = words_of bytes k }
 
 -- the pages of a region of data
 abbrev pub data_pages : Starts → Region → Bool → List Section → List LinkedValue
     → List DataPageValue
 data_pages starts region write sections linked =
-    map (data_page (bytes_of region sections linked) (first_page starts region) write)
+    map (page_of_data (bytes_of region sections linked) (first_page starts region) write)
     (range_with_len 0 (pages_of region sections))
 
 -- the pages of text
 abbrev pub text_pages : Starts → List Section → List LinkedValue → List PageValue
 text_pages starts sections linked =
-    map (text_page (bytes_of Text sections linked) (first_page starts Text))
+    map (page_of_text (bytes_of Text sections linked) (first_page starts Text))
     (range_with_len 0 (pages_of Text sections))
 
 -- what a patch brings: its text for itself, its constants and its data for all, and its jumps

@@ -3,7 +3,7 @@ ghost use Rattle.std.specs.Prelude.{◌≡◌, ◌<◌, ◌≤◌, ◌+◌, ◌*
 ghost use Rattle.elf_link.specs.Links.{AreLow};
 ghost use Rattle.patch_build.specs.Links.{HasPlaces};
 ghost use Rattle.patch_build.specs.Sections.{is_loaded, region_of};
-ghost use Rattle.patch_build.specs.Layout.{offset_behind, end_with, end_of, end_in, pages_of, all_pages, area_fault, starts_of, first_page, place_at, ends_with, places_of, AreStarts, HasRoom};
+ghost use Rattle.patch_build.specs.Layout.{offset_behind, end_with, region_end, end_in, pages_of, all_pages, area_fault, starts_of, first_page, place_at, ends_with, places_of, AreStarts, HasRoom};
 
 use crate::BuildFault;
 use crate::constants::MOST_PATCH_PAGES;
@@ -30,9 +30,9 @@ pub struct Ends {
 }
 
 // Where the sections of a region end, in bytes from its start.
-fn end_of(sections: &[Section], region: Region) -> u128
+fn region_end(sections: &[Section], region: Region) -> u128
     requires { length sections.now < 2 ^ 32 }
-    ensures value { result ≡ end_of region sections.now }
+    ensures value { result ≡ region_end region sections.now }
     ensures fits { result < 2 ^ 98 }
 {
     let mut end = 0u128;
@@ -51,7 +51,7 @@ fn pages_of(sections: &[Section], region: Region) -> u128
     ensures value { result ≡ pages_of region sections.now }
     ensures fits { result < 2 ^ 98 }
 {
-    end_of(sections, region).div_ceil(u128::from(PAGE_SIZE))
+    region_end(sections, region).div_ceil(u128::from(PAGE_SIZE))
 }
 
 /// The pages of each region, from this page on; or that they are too many.

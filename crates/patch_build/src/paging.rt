@@ -2,9 +2,9 @@
 ghost use Rattle.std.specs.Prelude.{◌≡◌, ◌<◌, ◌≤◌, ◌+◌, ◌*◌, ◌^◌, ◌++◌, [], length, map, IfOk, OnOk, vec_len};
 ghost use Rattle.std.specs.List.{range_with_len};
 ghost use Rattle.wf_outside.specs.declared.sizes.TheConstants.{PAGE_SIZE, PAGE_WORDS, DATA_END_PAGE};
-ghost use Rattle.patch_build.specs.Layout.{all_pages, end_with, end_of, pages_of, AreStarts};
+ghost use Rattle.patch_build.specs.Layout.{all_pages, end_with, region_end, pages_of, AreStarts};
 ghost use Rattle.patch_build.specs.Links.{AreSized};
-ghost use Rattle.patch_build.specs.Pages.{padded, bytes_with, bytes_behind, bytes_of, words_of, text_page, data_page, text_pages, data_pages, delta_with};
+ghost use Rattle.patch_build.specs.Pages.{padded, bytes_with, bytes_behind, bytes_of, words_of, page_of_text, page_of_data, text_pages, data_pages, delta_with};
 ghost use Rattle.patch_build.specs.declared.constants.TheConstants.{MOST_PATCH_PAGES};
 
 use crate::layout::Starts;
@@ -54,7 +54,7 @@ fn bytes_behind(
     requires sized { AreSized sections.now linked.now }
     ensures bytes { IfOk result
         (λ bytes. bytes.items ≡ bytes_behind region [] sections.now linked.now) }
-    ensures len { IfOk result (λ bytes. vec_len bytes ≤ end_of region sections.now) }
+    ensures len { IfOk result (λ bytes. vec_len bytes ≤ region_end region sections.now) }
 {
     let mut bytes = Vec::new(alloc);
     for (number, section) in sections.iter().enumerate() {
@@ -99,7 +99,7 @@ fn text_pages(alloc: Global, bytes: &[u8], first: u32, count: u32) -> Result<Vec
     requires whole { length bytes.now ≡ PAGE_SIZE * count }
     requires low { first + count ≤ DATA_END_PAGE }
     ensures { IfOk result
-        (λ pages. pages.items ≡ map (text_page bytes.now first) (range_with_len 0 count)) }
+        (λ pages. pages.items ≡ map (page_of_text bytes.now first) (range_with_len 0 count)) }
 {
     let mut pages = Vec::new(alloc);
     for k in 0..count {
@@ -124,7 +124,7 @@ fn push_data(
     requires whole { length bytes.now ≡ PAGE_SIZE * count }
     requires low { first + count ≤ DATA_END_PAGE }
     ensures { OnOk result (pages.new.items ≡ pages.old.items
-        ++ map (data_page bytes.now first write) (range_with_len 0 count)) }
+        ++ map (page_of_data bytes.now first write) (range_with_len 0 count)) }
 {
     for k in 0..count {
         let words = words_of(alloc, bytes, k)?;

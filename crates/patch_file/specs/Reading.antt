@@ -8,6 +8,7 @@ use Rattle.patch_file.specs.declared.patch.PatchFault.TheVariants.{Line, Memory}
 use Rattle.patch_file.specs.Words.{is_passed, header_in, object_in, replace_in}
 use Rattle.patch_file.specs.Patches.{PatchValue}
 
+-- what comes of what was read, where no line is at fault
 infixl 10 ◌>>=◌
 abbrev pub ◌>>=◌ : {A B : Type 0} → Result A ℕ → (A → Result B ℕ) → Result B ℕ
 (Ok x) >>= f = f x
@@ -77,5 +78,5 @@ Gives view (Ok x) read = read ≡ Ok (view x)
 Gives view (Err fault) read = IsFaultOf fault read
 
 -- a result is that of reading, unless memory ran out
-abbrev pub Reads : Result PatchValue PatchFault → Result PatchValue ℕ → Type 0
-Reads result read = Gives (λ patch. patch) result read
+abbrev pub GivesPatch : Result PatchValue PatchFault → Result PatchValue ℕ → Type 0
+GivesPatch result read = Gives (λ patch. patch) result read

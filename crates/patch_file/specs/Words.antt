@@ -4,6 +4,7 @@ use Rattle.std.specs.Prelude.{ℕ, List, ◌==◌, ◌||◌, Bool, Option, Some,
 use Rattle.std.specs.Str.{bytes_eq}
 use Rattle.wf_text.specs.Lines.{before, from, unspaced, name_of}
 
+-- what comes of a value, where there is one
 infixl 10 ◌>>=◌
 abbrev pub ◌>>=◌ : {A B : Type 0} → Option A → (A → Option B) → Option B
 o >>= f = option_and_then f o

@@ -3,7 +3,7 @@ ghost use Rattle.std.specs.Prelude.{◌≡◌, ◌<◌, ◌≤◌, ◌+◌, ◌^
 ghost use Rattle.wf_text.specs.Lines.{lines_of};
 ghost use Rattle.patch_file.specs.Words.{header_in, object_in};
 ghost use Rattle.patch_file.specs.Patches.{IsPatch};
-ghost use Rattle.patch_file.specs.Reading.{unpassed, line_at, replace_at, replaces_in, patch_of, Gives, Reads};
+ghost use Rattle.patch_file.specs.Reading.{unpassed, line_at, replace_at, replaces_in, patch_of, Gives, GivesPatch};
 
 use crate::lines::next_line;
 use crate::words::{header_in, object_in, replace_in};
@@ -82,7 +82,7 @@ fn read_replaces(alloc: Global, bytes: &[u8], first: u64) -> Result<Vec<Replace>
 pub fn read_patch(alloc: Global, bytes: &[u8]) -> Result<PatchFile, PatchFault>
     // What is read is the file of the bytes, and a fault is that of the bytes, unless memory ran
     // out.
-    ensures read { Reads result (patch_of bytes.now) }
+    ensures read { GivesPatch result (patch_of bytes.now) }
     // What each file keeps.
     ensures kept { IfOk result (λ patch. IsPatch patch) }
 {

@@ -42,7 +42,7 @@ fn image_of<R: Env + Files + AllocGlobal>(rt: &R, name: &[u8]) -> Result<Vec<u8>
     }
 }
 
-fn text_of(alloc: Global, bytes: &[u8]) -> Result<Text> {
+fn new_text(alloc: Global, bytes: &[u8]) -> Result<Text> {
     match Text::of(alloc, bytes) {
         Ok(text) => Ok(text),
         Err(Memory) => bail!("memory"),
@@ -52,16 +52,16 @@ fn text_of(alloc: Global, bytes: &[u8]) -> Result<Text> {
 // The words of a command on the files `image` and `other`, with more words behind.
 fn words_of(alloc: Global, command: &[u8], more: &[u8]) -> Result<Vec<Text>> {
     let mut words = Vec::new(alloc);
-    words.push(text_of(alloc, command)?)?;
-    words.push(text_of(alloc, b"image")?)?;
-    words.push(text_of(alloc, b"other")?)?;
+    words.push(new_text(alloc, command)?)?;
+    words.push(new_text(alloc, b"image")?)?;
+    words.push(new_text(alloc, b"other")?)?;
     let mut rest = without_spaces(more);
     for _ in 0..more.len() {
         if rest.is_empty() {
             break;
         }
         let (word, behind) = split_word(rest);
-        words.push(text_of(alloc, word)?)?;
+        words.push(new_text(alloc, word)?)?;
         rest = without_spaces(behind);
     }
     Ok(words)
@@ -70,8 +70,8 @@ fn words_of(alloc: Global, command: &[u8], more: &[u8]) -> Result<Vec<Text>> {
 // What a command answers on two files, and what it puts.
 fn answer(alloc: Global, words: &[Text], image: &[u8], other: &[u8]) -> Result<(Status, Vec<u8>)> {
     let mut files = Vec::new(alloc);
-    files.push((text_of(alloc, b"image")?, image.to_vec(alloc)?))?;
-    files.push((text_of(alloc, b"other")?, other.to_vec(alloc)?))?;
+    files.push((new_text(alloc, b"image")?, image.to_vec(alloc)?))?;
+    files.push((new_text(alloc, b"other")?, other.to_vec(alloc)?))?;
     let mut shelf = MemShelf::new(alloc, files, Vec::new(alloc));
     let mut sink = MemSink::new(alloc, Vec::new(alloc));
     let status = top(alloc, words, &mut shelf, &mut sink);

@@ -17,6 +17,7 @@ symbol_value s = record {
   global = s.global;
 }
 
+-- symbols of the code, without where they lie in memory
 abbrev pub symbol_values : List Symbol → List ModSymbol
 symbol_values symbols = map symbol_value symbols
 
@@ -24,6 +25,7 @@ symbol_values symbols = map symbol_value symbols
 abbrev pub label_names : List LabelValue → List (List ℕ)
 label_names labels = map (λ l. l.name) labels
 
+-- the names of symbols, in their order
 abbrev pub symbol_names : List ModSymbol → List (List ℕ)
 symbol_names symbols = map (λ s. s.name) symbols
 
@@ -39,5 +41,6 @@ pub record IsNarrow (s : ModSymbol) : Type 0 where
   pub value : s.value < 2 ^ 64
   pub size : s.size < 2 ^ 64
 
+-- each symbol has numbers that its record has room for
 abbrev pub AreNarrow : List ModSymbol → Type 0
 AreNarrow symbols = AllByRecursion IsNarrow symbols

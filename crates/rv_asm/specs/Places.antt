@@ -11,6 +11,7 @@ use Rattle.rv_asm.specs.Labels.{LabelValue, place_named}
 abbrev pub label_value : Label → LabelValue
 label_value l = record { name = l.name.now; section = l.section; offset = l.offset }
 
+-- labels of the code, without where they lie in memory
 abbrev pub label_values : List Label → List LabelValue
 label_values labels = map label_value labels
 

@@ -28,6 +28,7 @@ use_value u = record {
   label = u.label.now;
 }
 
+-- uses of names of the code, without where they lie in memory
 abbrev pub use_values : List PlacedUse → List UseValue
 use_values uses = map use_value uses
 
@@ -62,5 +63,6 @@ pub record IsCloseUse (u : UseValue) : Type 0 where
   pub name : IsPlainName u.name
   pub label : IsPlainName u.label
 
+-- each use stands at a place whose number is small
 abbrev pub AreCloseUses : List UseValue → Type 0
 AreCloseUses uses = AllByRecursion IsCloseUse uses

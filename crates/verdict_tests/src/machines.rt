@@ -16,7 +16,7 @@ fn zeros(alloc: Global) -> Result<Vec<u64>, Memory>
     Ok(words)
 }
 
-fn text_page(alloc: Global, number: u32) -> Result<Page, Memory>
+fn new_text_page(alloc: Global, number: u32) -> Result<Page, Memory>
     requires { number < 2 ^ 26 }
     ensures { IfOk result (λ page. page.number ≡ number) }
 {
@@ -26,7 +26,7 @@ fn text_page(alloc: Global, number: u32) -> Result<Page, Memory>
     })
 }
 
-fn data_page(alloc: Global, number: u32) -> Result<DataPage, Memory>
+fn new_data_page(alloc: Global, number: u32) -> Result<DataPage, Memory>
     requires { number < 2 ^ 26 }
     ensures { IfOk result (λ page. page.number ≡ number) }
 {
@@ -40,9 +40,9 @@ fn data_page(alloc: Global, number: u32) -> Result<DataPage, Memory>
 // Page 10 of text and page 11 of data.
 fn image(alloc: Global) -> Result<Image, Memory> {
     let mut text = Vec::new(alloc);
-    text.push(text_page(alloc, 0x10)?)?;
+    text.push(new_text_page(alloc, 0x10)?)?;
     let mut pages = Vec::new(alloc);
-    pages.push(data_page(alloc, 0x11)?)?;
+    pages.push(new_data_page(alloc, 0x11)?)?;
     Ok(Image {
         text,
         pages,

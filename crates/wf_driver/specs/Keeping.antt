@@ -10,8 +10,8 @@ use Rattle.wf_sound.specs.Sound.{IsSound}
 use Rattle.wf_service.specs.Resting.{IsResting}
 use Rattle.wf_driver.specs.Housing.{AreHomesOf}
 
--- A machine with these patches rests, and has from 1 to 64 harts; and its entries are legal, and led
--- to it from a sound start, which had few births.
+-- A machine with these patches rests, and has from 1 to 64 harts; and its entries are legal, and
+-- led to it from a sound start, which had few births.
 pub record IsReady (deltas : List DeltaValue) (flat : FlatState) (entries : List Entry)
     : Type 0 where
   pub rests : IsResting flat

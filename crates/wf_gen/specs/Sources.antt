@@ -30,6 +30,7 @@ function_lines name number =
 abbrev pub function_name : ℕ → List ℕ
 function_name i = codes "f" ++ decimal i
 
+-- the name of the function that takes the place of function j
 abbrev pub new_name : ℕ → List ℕ
 new_name j = codes "g" ++ decimal j
 
@@ -67,6 +68,7 @@ object_source j = function_lines (new_name j) (added_by j + 1)
 abbrev pub patch_name : ℕ → List ℕ
 patch_name j = codes "p" ++ decimal j
 
+-- the name of the object of patch j
 abbrev pub object_name : ℕ → List ℕ
 object_name j = patch_name j ++ codes ".o"
 

@@ -62,6 +62,7 @@ abbrev pub gone_with : ℕ → List ℕ → Option Event
 gone_with page [] = Some (Gone page false)
 gone_with page (c ∷ cs) = worn_of page (word_at (c ∷ cs))
 
+-- a Gone: the number of its page, and `worn` or nothing
 unfoldable pub gone_of : List ℕ → Option Event
 gone_of rest = field hex32 rest >>= λ page. gone_with page.0 page.1
 
@@ -110,6 +111,7 @@ refused_of name rest =
     then (word_at rest >>= λ why. option_map Refused (reason_of why.0 why.1))
     else None
 
+-- the first event where there is one, else the other
 abbrev pub or_else : Option Event → Option Event → Option Event
 or_else (Some e) other = Some e
 or_else None other = other

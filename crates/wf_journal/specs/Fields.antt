@@ -6,6 +6,7 @@ use Rattle.wf_text.specs.Numbers.{glyph_value, number_of, number_from}
 use Rattle.wf_flat.specs.declared.event.Actor.{Actor}
 use Rattle.wf_flat.specs.declared.event.Actor.TheVariants.{Hart, Kernel}
 
+-- what comes of a value, where there is one
 infixl 10 ◌>>=◌
 abbrev pub ◌>>=◌ : {A B : Type 0} → Option A → (A → Option B) → Option B
 o >>= f = option_and_then f o
@@ -64,15 +65,19 @@ four f g h i rest = do
 abbrev pub hex64 : List ℕ → Option ℕ
 hex64 = number_of 16 (2 ^ 64 - 1)
 
+-- a hexadecimal number of 32 bits
 abbrev pub hex32 : List ℕ → Option ℕ
 hex32 = number_of 16 (2 ^ 32 - 1)
 
+-- a decimal number of 64 bits
 abbrev pub decimal64 : List ℕ → Option ℕ
 decimal64 = number_of 10 (2 ^ 64 - 1)
 
+-- a decimal number of 32 bits
 abbrev pub decimal32 : List ℕ → Option ℕ
 decimal32 = number_of 10 (2 ^ 32 - 1)
 
+-- a decimal number of 8 bits
 abbrev pub decimal8 : List ℕ → Option ℕ
 decimal8 = number_of 10 255
 
@@ -87,6 +92,7 @@ right_of word =
     if bytes_eq word (codes "rw") then Some true
     else (if bytes_eq word (codes "r") then Some false else None)
 
+-- the patch of this number, where there is a number
 abbrev pub as_patch : Option ℕ → Option (Option ℕ)
 as_patch None = None
 as_patch (Some k) = Some (Some k)
@@ -97,6 +103,7 @@ patch_of none word =
     if bytes_eq word none then Some None
     else (if slice_index word 0 == 112 then as_patch (decimal32 (drop 1 word)) else None)
 
+-- the hart of this number, where there is a number
 abbrev pub as_hart : Option ℕ → Option Actor
 as_hart None = None
 as_hart (Some h) = Some (Hart h)

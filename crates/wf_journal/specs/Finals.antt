@@ -22,6 +22,7 @@ hart_line number hart =
     codes "= hart " ++ decimal number ++ codes " gen " ++ decimal hart.generation ++ codes " pc "
     ++ hex hart.arch.pc ++ spaced (life_text hart.life)
 
+-- a space and the value of a register
 abbrev pub register_text : ℕ → List ℕ
 register_text value = spaced (hex value)
 
@@ -44,6 +45,7 @@ abbrev pub parent_text : Option ℕ → List ℕ
 parent_text None = codes "-"
 parent_text (Some parent) = decimal parent
 
+-- whether a generation lives
 abbrev pub live_text : Bool → List ℕ
 live_text true = codes "live"
 live_text false = codes "dead"

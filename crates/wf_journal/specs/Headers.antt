@@ -7,6 +7,7 @@ use Rattle.std.specs.Fmt.{decimal}
 abbrev pub line : List ℕ → List ℕ
 line text = text ++ 10 ∷ []
 
+-- the first line of a report, which is that of its format and version
 abbrev pub version_text : List ℕ
 version_text = codes "wfpatch run 1"
 

@@ -26,6 +26,7 @@ pub record SoFar : Type 0 where
   pub journal : JournalValue
   pub body : Bool
 
+-- a journal as far as it was read, and whether its first lines are behind
 abbrev pub so_far : JournalValue → Bool → SoFar
 so_far journal body = record { journal = journal; body = body }
 
@@ -95,6 +96,7 @@ abbrev pub started : ℕ → ℕ → SoFar
 started harts frames =
     so_far (record { harts = harts; frames = frames; patches = []; entries = []; end = [] }) false
 
+-- the version that a line names, where it is the one that there is
 abbrev pub version_of : List ℕ → Option ℕ
 version_of line = if bytes_eq line version_text then Some 1 else None
 
@@ -104,11 +106,13 @@ abbrev pub as_line : {A : Type 0} → ℕ → List (List ℕ) → Option A → R
 as_line number lines None = Err number
 as_line number lines (Some x) = Ok (x, lines)
 
+-- the first of these lines, which has this number, as a value, with the lines behind it
 unfoldable pub line_at : {A : Type 0} → ℕ → (List ℕ → Option A) → List (List ℕ)
     → Result (A × List (List ℕ)) ℕ
 line_at number value_of [] = Err number
 line_at number value_of (line ∷ lines) = as_line number lines (value_of line)
 
+-- what comes of what was read, where no line is at fault
 abbrev pub and_then : {A B : Type 0} → Result A ℕ → (A → Result B ℕ) → Result B ℕ
 and_then (Ok x) f = f x
 and_then (Err n) f = Err n
@@ -132,10 +136,10 @@ journal_of bytes =
     and_then (sizes_of (lines_of bytes)) (λ sizes. with_lines (started sizes.0 sizes.1) 4 sizes.2)
 
 -- a result is that of reading, unless memory ran out
-abbrev pub Reads : Result JournalValue JournalFault → Result JournalValue ℕ → Type 0
-Reads (Ok journal) read = read ≡ Ok journal
-Reads (Err Memory) read = Unit {0}
-Reads (Err (Line line)) read = read ≡ Err line
+abbrev pub GivesJournal : Result JournalValue JournalFault → Result JournalValue ℕ → Type 0
+GivesJournal (Ok journal) read = read ≡ Ok journal
+GivesJournal (Err Memory) read = Unit {0}
+GivesJournal (Err (Line line)) read = read ≡ Err line
 
 -- a reader of the first lines gives what reading gives
 abbrev pub Found : {X Y : Type 0} → (X → Y) → Result X ℕ → Result Y ℕ → Type 0

@@ -2,7 +2,7 @@
 ghost use Rattle.std.specs.Prelude.{◌≡◌, ◌≤◌, List, ℕ, Some, IfOk, IfSome, MatchOption, None, option_map, length};
 ghost use Rattle.wf_text.specs.Lines.{lines_of};
 ghost use Rattle.wf_journal.specs.Events.{entry_of};
-ghost use Rattle.wf_journal.specs.Journals.{IsSized, JournalValue, SoFar, size_of, patch_named, with_line, with_lines, started, version_of, line_at, sizes_of, journal_of, Reads, Found};
+ghost use Rattle.wf_journal.specs.Journals.{IsSized, JournalValue, SoFar, size_of, patch_named, with_line, with_lines, started, version_of, line_at, sizes_of, journal_of, GivesJournal, Found};
 
 use crate::words::word_at;
 use std::alloc::{AllocError, AllocFailed, Global};

@@ -1,7 +1,7 @@
 //! The lines of a journal, one after the other.
 ghost use Rattle.std.specs.Prelude.{◌≡◌, ◌<◌, ◌≤◌, ◌+◌, Some, None, Ok, IfOk, MatchOption, length};
 ghost use Rattle.wf_text.specs.Lines.{lines_of};
-ghost use Rattle.wf_journal.specs.Journals.{IsSized, so_far, with_line, with_lines, started, sizes_of, journal_of, Reads};
+ghost use Rattle.wf_journal.specs.Journals.{IsSized, so_far, with_line, with_lines, started, sizes_of, journal_of, GivesJournal};
 
 use crate::events::entry_of;
 use crate::journal::{patch_named, sizes_of};
@@ -53,7 +53,7 @@ fn push_line(
 // The journal of the lines behind the first three.
 #[tactic(auto, using(crate::proofs::JournalLemmas::more_steps))]
 fn read_lines(alloc: Global, harts: u8, frames: u32, bytes: &[u8]) -> Result<Journal, JournalFault>
-    ensures read { Reads result (with_lines (started harts frames) 4 (lines_of bytes.now)) }
+    ensures read { GivesJournal result (with_lines (started harts frames) 4 (lines_of bytes.now)) }
     ensures sizes { IfOk result (λ journal. (journal.harts ≡ harts) × (journal.frames ≡ frames)) }
 {
     let mut journal = Journal {
@@ -84,7 +84,7 @@ fn read_lines(alloc: Global, harts: u8, frames: u32, bytes: &[u8]) -> Result<Jou
 pub fn read_journal(alloc: Global, bytes: &[u8]) -> Result<Journal, JournalFault>
     // What is read is the journal of the bytes, and a fault is that of the bytes, unless memory ran
     // out.
-    ensures read { Reads result (journal_of bytes.now) }
+    ensures read { GivesJournal result (journal_of bytes.now) }
     ensures sized { IfOk result (λ journal. IsSized journal.harts journal.frames) }
 {
     match sizes_of(bytes) {

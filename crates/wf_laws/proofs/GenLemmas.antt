@@ -92,16 +92,16 @@ count_more (Born generation parent patch) n = omega arith
 count_more e n = omega arith
 
 -- the texts
-abbrev text_of : Option (List PageValue) → List PageValue
-text_of None = []
-text_of (Some text) = text
+abbrev text_or_none : Option (List PageValue) → List PageValue
+text_or_none None = []
+text_or_none (Some text) = text
 
-text_is : (o : Option GenState) → text_in o ≡ text_of (option_map (λ (gen : GenState). gen.text) o)
+text_is : (o : Option GenState) → text_in o ≡ text_or_none (option_map (λ (gen : GenState). gen.text) o)
 text_is None = refl
 text_is (Some gen) = refl
 
 same_text : (one other : Option GenState) → option_map (λ (gen : GenState). gen.text) one ≡ option_map (λ (gen : GenState). gen.text) other → text_in one ≡ text_in other
-same_text one other e = text_is one ∙ ap text_of e ∙ sym (text_is other)
+same_text one other e = text_is one ∙ ap text_or_none e ∙ sym (text_is other)
 
 texts_by : (deltas : List DeltaValue) (s : FlatState) (e : Event) (g : ℕ) → g < length s.gens → text_in (slice_get (gens_after deltas s e) g) ≡ text_in (slice_get s.gens g)
 texts_by deltas s (Map first n write patch) g below = same_text (slice_get (map (reaching (range_with_len first n)) s.gens) g) (slice_get s.gens g) (map_field (λ (gen : GenState). gen.text) (reaching (range_with_len first n)) (λ gen. refl) s.gens g)

@@ -31,7 +31,7 @@ use Rattle.wf_laws.proofs.GripLemmas.{Grip, IsSettled, end_page, grip_access, gr
 use Rattle.wf_laws.proofs.StayLemmas.{at_stays, given_stays, gone_stays, if_map}
 
 -- what only the birth and the count of writes of a page have part in, and what more writes keep
-record IsRising (P : PageState → Type 0) : Type 0 where
+record IsKeptByGrowth (P : PageState → Type 0) : Type 0 where
   same : (p q : PageState) → p.birth ≡ q.birth → p.writes ≤ q.writes → P p → P q
 
 going_birth : (first n : ℕ) (p : PageState) → (p.birth ≡ (going_in first n p).birth) × (p.writes ≤ (going_in first n p).writes)
@@ -61,7 +61,7 @@ mapped_rises P deltas patch write first births n k None new p = by_range (in_ran
     by_range false t = tt
 
 -- each entry keeps it, if the pages that it maps have it
-rises_page : (P : PageState → Type 0) → IsRising P → (deltas : List DeltaValue) (s : FlatState) (actor : Actor) (e : Event) (k : ℕ) (o : Option PageState)
+rises_page : (P : PageState → Type 0) → IsKeptByGrowth P → (deltas : List DeltaValue) (s : FlatState) (actor : Actor) (e : Event) (k : ℕ) (o : Option PageState)
     → ((p : PageState) → s.births ≤ p.birth → p.birth < births_after e s.births → P p) → IfSome o P → IfSome (page_after deltas s actor e k o) P
 rises_page P r deltas s (Hart h) (Take page) k o new p = if_map P (at_number page (taken_by h)) o (λ found is e. at_stays P page (taken_by h) (λ p e. r.same p (taken_by h p) refl (omega arith) e) found e) p
 rises_page P r deltas s (Hart h) (Put va width value) k o new p =
@@ -76,7 +76,7 @@ rises_page P r deltas s actor (Ending page) k o new p = if_map P (at_number page
 rises_page P r deltas s actor (Gone page worn) k o new p = gone_stays P (k == page) o p
 rises_page P r deltas s actor e k o new p = p
 
-rises : (P : PageState → Type 0) → IsRising P → (deltas : List DeltaValue) (s : FlatState) (actor : Actor) (e : Event) (k : ℕ) → ((p : PageState) → s.births ≤ p.birth → p.birth < births_after e s.births → P p)
+rises : (P : PageState → Type 0) → IsKeptByGrowth P → (deltas : List DeltaValue) (s : FlatState) (actor : Actor) (e : Event) (k : ℕ) → ((p : PageState) → s.births ≤ p.birth → p.birth < births_after e s.births → P p)
     → IfSome (data_in s.pages k) P → IfSome (data_in (flat_after deltas s actor e).pages k) P
 rises P r deltas s actor e k new p = subst (λ (o : Option PageState). IfSome o P) (sym (data_after deltas s actor e k)) (rises_page P r deltas s actor e k (data_in s.pages k) new p)
 
@@ -93,7 +93,7 @@ old_after deltas s actor e old k =
     let births : ℕ = births_after e s.births in
     let more : s.births ≤ births = births_more e s.births in
     let wider : IfSome (data_in s.pages k) (λ (page : PageState). page.birth < births) = by_page (data_in s.pages k) (old k) more in
-    let r : IsRising (λ (page : PageState). page.birth < births) = record { same = λ p q same more e. subst (λ (b : ℕ). b < births) same e } in
+    let r : IsKeptByGrowth (λ (page : PageState). page.birth < births) = record { same = λ p q same more e. subst (λ (b : ℕ). b < births) same e } in
     subst (λ (n : ℕ). IfSome (data_in (flat_after deltas s actor e).pages k) (λ (page : PageState). page.birth < n)) (sym (births_kept deltas s actor e))
     (rises (λ (page : PageState). page.birth < births) r deltas s actor e k (λ p from to. to) wider)
   where
@@ -119,7 +119,7 @@ pub record IsGrown (s : FlatState) (number birth writes : ℕ) : Type 0 where
 pub grown_after : (deltas : List DeltaValue) (s : FlatState) (actor : Actor) (e : Event) (number birth writes : ℕ) → IsGrown s number birth writes → IsGrown (flat_after deltas s actor e) number birth writes
 grown_after deltas s actor e number birth writes g =
     let old : birth < births_after e s.births = (let more = births_more e s.births in let before = g.old in omega arith) in
-    let r : IsRising (HasWrites birth writes) = record { same = λ p q same more k is. (let low : writes ≤ p.writes = k (same ∙ is) in omega arith) } in
+    let r : IsKeptByGrowth (HasWrites birth writes) = record { same = λ p q same more k is. (let low : writes ≤ p.writes = k (same ∙ is) in omega arith) } in
     record {
       old = subst (λ (n : ℕ). birth < n) (sym (births_kept deltas s actor e)) old;
       grown = rises (HasWrites birth writes) r deltas s actor e number (λ p from to is. absurd (let before = g.old in omega arith)) g.grown;

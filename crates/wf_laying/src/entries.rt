@@ -25,7 +25,7 @@ fn text_place(text: &[TextAt], page: u64) -> Option<usize>
 }
 
 // The page of text of a number.
-fn text_of(text: &[TextAt], page: u64) -> Option<TextAt>
+fn found_text(text: &[TextAt], page: u64) -> Option<TextAt>
     requires { IsRising (map text_page text.now) }
     ensures { result ≡ found_by text_page text.now page }
 {
@@ -52,7 +52,7 @@ fn text_leaf(view: &View, page: u64) -> u64
     requires { IsRising (map text_page view.now.text) }
     ensures { result ≡ layout.first_entry view.now 0 page }
 {
-    match text_of(&view.text, page) {
+    match found_text(&view.text, page) {
         Some(text) => pte_leaf(text.frame, Leaf::Private),
         None => 0,
     }

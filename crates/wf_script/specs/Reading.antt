@@ -12,6 +12,7 @@ use Rattle.wf_script.specs.declared.words.Verb.TheVariants.{Step, Tick, Run, Pat
 use Rattle.wf_script.specs.Commands.{ScriptValue, units_of}
 use Rattle.wf_script.specs.Words.{verb_of, begun_of, hart_of, actor_of, count_of, generation_of, address_of}
 
+-- what comes of what was read, where there is no fault
 infixl 10 ◌>>=◌
 abbrev pub ◌>>=◌ : {A B E : Type 0} → Result A E → (A → Result B E) → Result B E
 (Ok x) >>= f = f x
@@ -162,6 +163,7 @@ with_lines harts script number (line ∷ lines) = do
   more ← with_line harts script number line
   with_lines harts more (suc number) lines
 
+-- the script without a command
 abbrev pub empty : ScriptValue
 empty = record { commands = []; lines = []; patches = [] }
 
@@ -192,6 +194,6 @@ IsFaultOf (Units number) read = read ≡ Err (Units number)
 IsFaultOf (Patches number) read = read ≡ Err (Patches number)
 
 -- a result is that of reading, unless memory ran out
-abbrev pub Reads : Result ScriptValue ScriptFault → Result ScriptValue ScriptFault → Type 0
-Reads (Ok script) read = read ≡ Ok script
-Reads (Err fault) read = IsFaultOf fault read
+abbrev pub GivesScript : Result ScriptValue ScriptFault → Result ScriptValue ScriptFault → Type 0
+GivesScript (Ok script) read = read ≡ Ok script
+GivesScript (Err fault) read = IsFaultOf fault read

@@ -26,6 +26,7 @@ verb_of word =
 abbrev pub begun_of : List ℕ → Option Verb
 begun_of word = if bytes_eq word (codes "patch") then Some Patch else None
 
+-- a number, where it is below the limit
 abbrev pub below : ℕ → Option ℕ → Option ℕ
 below limit None = None
 below limit (Some n) = if nat_lt n limit then Some n else None
@@ -35,6 +36,7 @@ unfoldable pub hart_of : ℕ → List ℕ → Option ℕ
 hart_of harts word =
     if slice_index word 0 == 104 then below harts (number_of 10 255 (drop 1 word)) else None
 
+-- the hart of this number as an actor, where there is a number
 abbrev pub hart_actor : Option ℕ → Option Actor
 hart_actor None = None
 hart_actor (Some h) = Some (actor.Hart h)
@@ -44,6 +46,7 @@ unfoldable pub actor_of : ℕ → List ℕ → Option Actor
 actor_of harts word =
     if bytes_eq word (codes "k") then Some actor.Kernel else hart_actor (hart_of harts word)
 
+-- a number, where it is not 0
 abbrev pub positive : Option ℕ → Option ℕ
 positive None = None
 positive (Some zero) = None
@@ -57,6 +60,7 @@ count_of most word = positive (number_of 10 most word)
 abbrev pub generation_of : List ℕ → Option ℕ
 generation_of word = number_of 10 1023 word
 
+-- an address, where it is a multiple of 8
 abbrev pub aligned : Option ℕ → Option ℕ
 aligned None = None
 aligned (Some va) = if va % 8 == 0 then Some va else None

@@ -2,7 +2,7 @@
 ghost use Rattle.std.specs.Prelude.{◌≡◌, ◌≢◌, ◌<◌, ◌≤◌, ◌+◌, ◌-◌, ◌^◌, ℕ, List, [], Bool, IfOk, IfErr, OnOk, Ok, length, min, sum_by};
 ghost use Rattle.wf_text.specs.Lines.{lines_of, unspaced};
 ghost use Rattle.wf_script.specs.Commands.{units_of, IsScript};
-ghost use Rattle.wf_script.specs.Reading.{is_passed, with_line, with_lines, empty, told, within_limits, script_of, names_with, IsFaultOf, Reads};
+ghost use Rattle.wf_script.specs.Reading.{is_passed, with_line, with_lines, empty, told, within_limits, script_of, names_with, IsFaultOf, GivesScript};
 
 use crate::commands::command_in;
 use crate::{Command, Script, ScriptFault};
@@ -119,7 +119,7 @@ fn push_line(
 // The script of all lines, whatever the limits.
 #[tactic(auto, using(crate::proofs::LineLemmas::line_steps))]
 fn read_lines(alloc: Global, bytes: &[u8], harts: u8) -> Result<Script, ScriptFault>
-    ensures { Reads result (with_lines harts empty 1 (lines_of bytes.now)) }
+    ensures { GivesScript result (with_lines harts empty 1 (lines_of bytes.now)) }
 {
     let mut script = Script {
         commands: Vec::new(alloc),
@@ -144,7 +144,7 @@ fn read_lines(alloc: Global, bytes: &[u8], harts: u8) -> Result<Script, ScriptFa
 pub fn read_script(alloc: Global, bytes: &[u8], harts: u8) -> Result<Script, ScriptFault>
     // What is read is the script of the bytes, and a fault is that of the bytes, unless memory ran
     // out.
-    ensures read { Reads result (script_of harts bytes.now) }
+    ensures read { GivesScript result (script_of harts bytes.now) }
     // What each script keeps.
     ensures kept { IfOk result (λ script. IsScript harts script) }
 {

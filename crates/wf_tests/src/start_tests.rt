@@ -18,7 +18,7 @@ fn words(alloc: Global, first: u64, last: u64) -> Result<Vec<u64>, Memory>
     Ok(words)
 }
 
-fn text_page(alloc: Global, number: u32) -> Result<Page, Memory>
+fn new_text_page(alloc: Global, number: u32) -> Result<Page, Memory>
     requires { number < 2 ^ 26 }
     ensures { IfOk result (λ page. page.number ≡ number) }
 {
@@ -28,7 +28,7 @@ fn text_page(alloc: Global, number: u32) -> Result<Page, Memory>
     })
 }
 
-fn data_page(alloc: Global, number: u32, write: bool) -> Result<DataPage, Memory>
+fn new_data_page(alloc: Global, number: u32, write: bool) -> Result<DataPage, Memory>
     requires { number < 2 ^ 26 }
     ensures { IfOk result (λ page. page.number ≡ number) }
 {
@@ -42,11 +42,11 @@ fn data_page(alloc: Global, number: u32, write: bool) -> Result<DataPage, Memory
 // Two pages of text and two of data, neither by rising number.
 fn unsorted_image(alloc: Global) -> Result<Image, Memory> {
     let mut text = Vec::new(alloc);
-    text.push(text_page(alloc, 0x12)?)?;
-    text.push(text_page(alloc, 0x10)?)?;
+    text.push(new_text_page(alloc, 0x12)?)?;
+    text.push(new_text_page(alloc, 0x10)?)?;
     let mut pages = Vec::new(alloc);
-    pages.push(data_page(alloc, 0x20, false)?)?;
-    pages.push(data_page(alloc, 0x11, true)?)?;
+    pages.push(new_data_page(alloc, 0x20, false)?)?;
+    pages.push(new_data_page(alloc, 0x11, true)?)?;
     Ok(Image {
         text,
         pages,

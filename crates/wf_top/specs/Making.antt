@@ -23,6 +23,7 @@ use Rattle.wf_run.specs.Answers.{HoldsReport, HoldsRun, stages_answer, start_for
 abbrev pub program_name : List ℕ
 program_name = codes "prog.elf"
 
+-- the name of the script that `make` makes
 abbrev pub script_name : List ℕ
 script_name = codes "steps.txt"
 

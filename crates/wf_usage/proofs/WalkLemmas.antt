@@ -130,21 +130,21 @@ module _ (name : Word) (R : List Rule) (u : Usage) (shorts : (c : ℕ) → arg_b
   met w p x h = subcommand_or_other R None w p x h
 
   -- nothing waits, or an option does
-  abbrev Reads : Waiting → Word → Type 0
-  Reads w x = subcommand_met [] w x ≡ None
+  abbrev IsReadSo : Waiting → Word → Type 0
+  IsReadSo w x = subcommand_met [] w x ≡ None
 
-  early_turn : (h : Held) (w : Waiting) (p : ℕ) (x : Word) (F : Kinds) (q : Held × Step) → Reads w x → other_fault S None x h ≡ F → met w p x h ≡ q → turn_fault S [] (walk_at h w p false) x ≡ or_else F (step_fault S p q.0 q.1)
+  early_turn : (h : Held) (w : Waiting) (p : ℕ) (x : Word) (F : Kinds) (q : Held × Step) → IsReadSo w x → other_fault S None x h ≡ F → met w p x h ≡ q → turn_fault S [] (walk_at h w p false) x ≡ or_else F (step_fault S p q.0 q.1)
   early_turn h w p x F q e f m =
       ap (λ (o : Option Word). or_else (other_fault S o x h) (step_fault S p (subcommand_or_other R o w p x h).0 (subcommand_or_other R o w p x h).1)) e
       ∙ ap₂ (λ (G : Kinds) (r : Held × Step). or_else G (step_fault S p r.0 r.1)) f m
 
-  early_walked : (h : Held) (w : Waiting) (p : ℕ) (x : Word) (q : Held × Step) → Reads w x → met w p x h ≡ q → walked R [] (walk_at h w p false) x ≡ after_step R x (walk_at h w p false) q.0 q.1
+  early_walked : (h : Held) (w : Waiting) (p : ℕ) (x : Word) (q : Held × Step) → IsReadSo w x → met w p x h ≡ q → walked R [] (walk_at h w p false) x ≡ after_step R x (walk_at h w p false) q.0 q.1
   unfolding walked
   early_walked h w p x q e m =
       ap (λ (o : Option Word). after_step R x (walk_at h w p false) (subcommand_or_other R o w p x h).0 (subcommand_or_other R o w p x h).1) e
       ∙ ap (λ (r : Held × Step). after_step R x (walk_at h w p false) r.0 r.1) m
 
-  refuse_early : (h : Held) (w : Waiting) (p : ℕ) (x : Word) (ws : List Word) (k : ErrorKind) → Reads w x → other_fault S None x h ≡ k ∷ [] → out (walk_at h w p false) (x ∷ ws) ≡ None
+  refuse_early : (h : Held) (w : Waiting) (p : ℕ) (x : Word) (ws : List Word) (k : ErrorKind) → IsReadSo w x → other_fault S None x h ≡ k ∷ [] → out (walk_at h w p false) (x ∷ ws) ≡ None
   refuse_early h w p x ws k e f = refused (walk_at h w p false) x ws k (early_turn h w p x (k ∷ []) (met w p x h) e f refl)
 
   -- `--`
@@ -154,7 +154,7 @@ module _ (name : Word) (R : List Rule) (u : Usage) (shorts : (c : ℕ) → arg_b
   end_met : (w : Waiting) (p : ℕ) (x : Word) (h : Held) → bytes_eq x (codes "--") ≡ true → met w p x h ≡ (h, trailing p)
   end_met w p x h e = ap (λ (b : Bool). cond b (h, trailing p) (long_or_other R w x (long_of x) h)) e
 
-  end_goes : (h : Held) (w : Waiting) (p : ℕ) (x : Word) (ws : List Word) → Reads w x → bytes_eq x (codes "--") ≡ true → out (walk_at h w p false) (x ∷ ws) ≡ out (walk_at h w p true) ws
+  end_goes : (h : Held) (w : Waiting) (p : ℕ) (x : Word) (ws : List Word) → IsReadSo w x → bytes_eq x (codes "--") ≡ true → out (walk_at h w p false) (x ∷ ws) ≡ out (walk_at h w p true) ws
   end_goes h w p x ws r e = goes (walk_at h w p false) (walk_at h w p true) x ws
       (early_turn h w p x [] (h, trailing p) r (end_fault x h e) (end_met w p x h e))
       (early_walked h w p x (h, trailing p) r (end_met w p x h e))

@@ -23,19 +23,23 @@ abbrev pub plain_app : Word → App
 plain_app name =
     on_top (λ s. record s { no_binary_name = true; disable_help_flag = true }) (new_app name)
 
+-- `run`: names of the image and the script; how many harts and frames
 abbrev pub run_app : App
 run_app = with_rule (with_rule (with_rule (with_rule (plain_app (codes "run"))
     (name_rule (codes "image"))) (name_rule (codes "script"))) (value_rule (codes "harts")))
     (value_rule (codes "frames"))
 
+-- `check`: names of the image and the journal
 abbrev pub check_app : App
 check_app = with_rule (with_rule (plain_app (codes "check")) (name_rule (codes "image")))
     (name_rule (codes "journal"))
 
+-- `asm`: the name of the source, and whether an object is wanted
 abbrev pub assembly_app : App
 assembly_app = with_rule (with_rule (plain_app (codes "asm")) (name_rule (codes "source")))
     (flag_rule (codes "object"))
 
+-- `make`: how many functions
 abbrev pub make_app : App
 make_app = with_rule (plain_app (codes "make")) (name_rule (codes "functions"))
 

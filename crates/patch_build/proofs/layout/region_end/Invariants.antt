@@ -1,7 +1,7 @@
 use Rattle.std.proofs.Common.{◌≡◌, ◌≤◌, ◌*◌, ◌^◌, take}
 use Rattle.std.specs.List.{fold}
 use Rattle.patch_build.specs.Layout.{end_with}
-use Rattle.patch_build.proofs.layout.end_of.Given as goal
+use Rattle.patch_build.proofs.layout.region_end.Given as goal
 
 -- the sections so far end here, and each took no more than an alignment and a size
 abbrev pub invariant-loop-section : goal.invariant-loop-section

@@ -1,0 +1,9 @@
+pub mod BuiltLemmas
+pub mod WordLemmas
+pub mod TextLemmas
+pub mod JumpLemmas
+pub mod FitLemmas
+pub mod CallLemmas
+pub mod GenLemmas
+pub mod RunLemmas
+pub mod HartLemmas
