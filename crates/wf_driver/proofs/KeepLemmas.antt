@@ -1,5 +1,5 @@
 -- What a machine keeps goes on with what it makes.
-use Rattle.std.proofs.Common.{◌≡◌, ◌<◌, ◌+◌, ◌^◌, ℕ, List, length, sym, subst, ap, ◌∙◌, arith}
+use Rattle.std.proofs.Common.{◌≡◌, ◌<◌, ◌+◌, ◌^◌, ℕ, List, Option, length, sym, subst, ap, ◌∙◌, arith}
 use Rattle.std.specs.Prelude.{Err, Ok, OnErr, OnOk, Result}
 use Rattle.wf_outside.specs.declared.sizes.TheConstants.{MOST_FRAMES}
 use Rattle.wf_outside.specs.Images.{DeltaValue}
@@ -14,7 +14,7 @@ use Rattle.wf_service.specs.Resting.{IsResting}
 use Rattle.wf_homes.specs.Homes.{Homes}
 use Rattle.wf_driver.specs.Keeping.{IsKept, IsReady}
 use Rattle.home_laws.specs.Laws.{HomesSettle, HomesStay}
-use Rattle.wf_driver.proofs.HousingLemmas.{IsAccounted, accounted_settled, all_of, of_along}
+use Rattle.wf_driver.proofs.HousingLemmas.{IsAccounted, more_of, still_of}
 
 -- it is sound, and births are few
 pub ready_sound : JournalsKeepSound → (deltas : List DeltaValue) (flat : FlatState) (entries : List Entry) → IsReady deltas flat entries → IsSound (at_rest deltas flat)
@@ -46,21 +46,21 @@ ready_on deltas flat next entries later P ready adds rests harts = record {
 }
 
 -- so the machine keeps what it keeps, where its homes accounted for all entries before
-pub kept_on : HomesSettle → HomesStay → (deltas : List DeltaValue) (flat next : FlatState) (entries later : List Entry) (P : List Entry → Type 0) (old : Homes) (before : ℕ) (homes : Homes) (accounted : ℕ) → IsAccounted flat entries old before homes accounted
+pub kept_on : HomesSettle → HomesStay → (deltas : List DeltaValue) (flat next : FlatState) (entries later : List Entry) (P : List Entry → Type 0) (old : Option Homes) (before : ℕ) (homes : Option Homes) (accounted : ℕ) → IsAccounted flat entries old before homes accounted
     → IsReady deltas flat entries → Adds (at_rest deltas flat) entries (at_rest deltas next) later P → IsResting next → length next.harts ≡ length flat.harts → IsKept deltas next later homes accounted
 kept_on settle stay deltas flat next entries later P old before homes accounted is ready adds rests harts = record {
   ready = ready_on deltas flat next entries later P ready adds rests harts;
-  housed = of_along stay deltas flat next entries later P homes accounted (accounted_settled settle flat entries old before homes accounted is) is.all adds;
+  housed = more_of settle stay deltas flat next entries later P old before homes accounted is adds;
 }
 
-pub kept_still : HomesSettle → (deltas : List DeltaValue) (flat next : FlatState) (entries later : List Entry) (old : Homes) (before : ℕ) (homes : Homes) (accounted : ℕ) → IsAccounted flat entries old before homes accounted
+pub kept_still : HomesSettle → (deltas : List DeltaValue) (flat next : FlatState) (entries later : List Entry) (old : Option Homes) (before : ℕ) (homes : Option Homes) (accounted : ℕ) → IsAccounted flat entries old before homes accounted
     → IsReady deltas flat entries → next ≡ flat → later ≡ entries → IsKept deltas next later homes accounted
 kept_still settle deltas flat next entries later old before homes accounted is ready f e =
-    let kept : IsKept deltas flat entries homes accounted = record { ready = ready; housed = all_of homes accounted entries flat (accounted_settled settle flat entries old before homes accounted is) is.all } in
+    let kept : IsKept deltas flat entries homes accounted = record { ready = ready; housed = still_of settle flat entries old before homes accounted is } in
     rw (f, e) kept
 
 -- by whether it went well
-pub kept_after : HomesSettle → HomesStay → {T E : Type 0} (r : Result T E) (deltas : List DeltaValue) (flat next : FlatState) (entries later : List Entry) (P : List Entry → Type 0) (old : Homes) (before : ℕ) (homes : Homes) (accounted : ℕ)
+pub kept_after : HomesSettle → HomesStay → {T E : Type 0} (r : Result T E) (deltas : List DeltaValue) (flat next : FlatState) (entries later : List Entry) (P : List Entry → Type 0) (old : Option Homes) (before : ℕ) (homes : Option Homes) (accounted : ℕ)
     → IsAccounted flat entries old before homes accounted → IsReady deltas flat entries → OnOk r (Adds (at_rest deltas flat) entries (at_rest deltas next) later P) → OnErr r ((next ≡ flat) × (later ≡ entries)) → IsResting next
     → length next.harts ≡ length flat.harts → IsKept deltas next later homes accounted
 kept_after settle stay (Ok x) deltas flat next entries later P old before homes accounted is ready adds same rests harts = kept_on settle stay deltas flat next entries later P old before homes accounted is ready adds rests harts

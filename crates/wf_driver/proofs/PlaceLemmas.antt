@@ -10,10 +10,10 @@ use Rattle.wf_outside.specs.Images.{DeltaValue}
 use Rattle.wf_report.specs.Listings.{ListingValue}
 use Rattle.wf_follow.specs.Places.{Place, behind, homes_along, paced, unticked}
 use Rattle.wf_follow.specs.Units.{Times}
-use Rattle.wf_driver.specs.Machines.{MachineValue, moment_of, place_of}
+use Rattle.wf_driver.specs.Machines.{AreHomesIn, MachineValue, moment_of, place_of}
 
 -- a machine, by its parts
-abbrev pub shown : List DeltaValue → FlatState → Homes → List Entry → List ListingValue → Option ℕ → MachineValue
+abbrev pub shown : List DeltaValue → FlatState → Option Homes → List Entry → List ListingValue → Option ℕ → MachineValue
 shown deltas flat homes entries listings last =
     record { deltas = deltas; flat = flat; homes = homes; entries = entries; listings = listings; last = last }
 
@@ -42,25 +42,29 @@ same_place : (m n : Moment) (h k : Homes) (i j : ℕ) (a b : Option ℕ) (xs ys 
 same_place m n h k i j a b xs ys p e q r s =
     ap (λ (x : Moment). place x h i a xs) p ∙ ap (λ (x : Homes). place n x i a xs) e ∙ ap (λ (x : ℕ). place n k x a xs) q ∙ ap (λ (x : Option ℕ). place n k j x xs) r ∙ ap (λ (x : List ℕ). place n k j b x) s
 
--- these are the homes of a machine behind entries
-abbrev pub AreAlong : MachineValue → List Entry → Homes → Type 0
-AreAlong old made homes = homes ≡ homes_along old.homes made (end_of (moment_of old) made).flat
+-- the homes behind entries of a machine, from those before
+abbrev pub behind_homes : MachineValue → Homes → List Entry → Homes
+behind_homes old homes made = homes_along homes made (end_of (moment_of old) made).flat
+
+-- the new homes are those behind the entries, if there are some
+abbrev pub AreAlong : MachineValue → List Entry → MachineValue → Type 0
+AreAlong old made new = (homes : Homes) → AreHomesIn old.homes homes → AreHomesIn new.homes (behind_homes old homes made)
 
 -- the place behind entries of a hart
-pub place_behind : (old new : MachineValue) (h : ℕ) (made : List Entry) → new.entries ≡ old.entries ++ made → new.last ≡ old.last
-    → moment_of new ≡ end_of (moment_of old) made → AreAlong old made new.homes → length new.flat.harts ≡ length old.flat.harts
-    → place_of new ≡ paced h 0 (behind (place_of old) made)
-place_behind old new h made entries last reached homes harts =
-    same_place (moment_of new) (end_of (moment_of old) made) new.homes (homes_along old.homes made (end_of (moment_of old) made).flat) (length new.entries) (length old.entries + length made) new.last old.last
-    (zeros new.flat.harts) (changed_at (zeros old.flat.harts) h (λ pace. 0)) reached homes
+pub place_behind : (old new : MachineValue) (h : ℕ) (made : List Entry) (homes : Homes) → new.entries ≡ old.entries ++ made → new.last ≡ old.last
+    → moment_of new ≡ end_of (moment_of old) made → length new.flat.harts ≡ length old.flat.harts
+    → place_of new (behind_homes old homes made) ≡ paced h 0 (behind (place_of old homes) made)
+place_behind old new h made homes entries last reached harts =
+    same_place (moment_of new) (end_of (moment_of old) made) (behind_homes old homes made) (behind_homes old homes made) (length new.entries) (length old.entries + length made) new.last old.last
+    (zeros new.flat.harts) (changed_at (zeros old.flat.harts) h (λ pace. 0)) reached refl
     (ap (λ (es : List Entry). length es) entries ∙ length-append old.entries made) last
     (zeros_same new.flat.harts old.flat.harts harts ∙ sym (zeros_changed old.flat.harts h))
 
 -- and behind those of the kernel's own actor
-pub place_along : (old new : MachineValue) (made : List Entry) → new.entries ≡ old.entries ++ made → new.last ≡ old.last
-    → moment_of new ≡ end_of (moment_of old) made → AreAlong old made new.homes → length new.flat.harts ≡ length old.flat.harts → place_of new ≡ behind (place_of old) made
-place_along old new made entries last reached homes harts =
-    same_place (moment_of new) (end_of (moment_of old) made) new.homes (homes_along old.homes made (end_of (moment_of old) made).flat) (length new.entries) (length old.entries + length made) new.last old.last (zeros new.flat.harts) (zeros old.flat.harts) reached homes
+pub place_along : (old new : MachineValue) (made : List Entry) (homes : Homes) → new.entries ≡ old.entries ++ made → new.last ≡ old.last
+    → moment_of new ≡ end_of (moment_of old) made → length new.flat.harts ≡ length old.flat.harts → place_of new (behind_homes old homes made) ≡ behind (place_of old homes) made
+place_along old new made homes entries last reached harts =
+    same_place (moment_of new) (end_of (moment_of old) made) (behind_homes old homes made) (behind_homes old homes made) (length new.entries) (length old.entries + length made) new.last old.last (zeros new.flat.harts) (zeros old.flat.harts) reached refl
     (ap (λ (es : List Entry). length es) entries ∙ length-append old.entries made) last (zeros_same new.flat.harts old.flat.harts harts)
 
 -- one more of a way

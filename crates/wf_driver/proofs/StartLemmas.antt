@@ -1,5 +1,5 @@
 -- The machine at its start: every page is free, every hart is in no try, and so many there are.
-use Rattle.std.proofs.Common.{◌≡◌, ◌≤◌, ◌++◌, ◌+◌, ℕ, zero, suc, List, [], ◌∷◌, None, length, map, refl, sym, subst, ap, ◌∙◌, length-append, arith}
+use Rattle.std.proofs.Common.{◌≡◌, ◌≤◌, ◌++◌, ◌+◌, ℕ, zero, suc, List, [], ◌∷◌, Bool, Option, None, length, map, refl, sym, subst, ap, ◌∙◌, length-append, arith}
 use Rattle.std.specs.List.{AllByRecursion}
 use Rattle.wf_outside.specs.Pages.{DataPageValue, LimitsValue}
 use Rattle.wf_outside.specs.Images.{ImageValue}
@@ -17,14 +17,13 @@ use Rattle.wf_legal.specs.Legal.{at_rest}
 use Rattle.wf_sound.specs.Laws.{IsStart, StartsAreSound}
 use Rattle.wf_sound.specs.Sound.{IsSound}
 use Rattle.wf_service.specs.Resting.{IsSettled}
-use Rattle.wf_homes.specs.Homes.{Homes, homes_at_boot}
-use Rattle.wf_tables.specs.Settled.{AreSettled}
+use Rattle.wf_homes.specs.Homes.{Homes}
 use Rattle.home_laws.specs.Laws.{HomesSettle}
 use Rattle.wf_report.specs.Listings.{ListingValue}
-use Rattle.wf_driver.specs.Housing.{homes_now}
-use Rattle.wf_driver.specs.Machines.{machine_at}
+use Rattle.wf_driver.specs.Housing.{own_homes}
+use Rattle.wf_driver.specs.Machines.{homes_wanted, machine_at}
 use Rattle.wf_driver.specs.Keeping.{IsKept, IsReady}
-use Rattle.wf_driver.proofs.HousingLemmas.{all_accounted, all_of}
+use Rattle.wf_driver.proofs.HousingLemmas.{start_accounted, start_of}
 use Rattle.wf_driver.proofs.PlaceLemmas.{shown}
 
 fresh_settled : (pages : List DataPageValue) → AllByRecursion IsSettled (map fresh_page pages)
@@ -82,22 +81,17 @@ pub starts_ready : (deltas : List DeltaValue) (image : ImageValue) (harts : ℕ)
 starts_ready deltas image harts limits flat entries is none some start ordered law =
     subst (IsReady deltas flat) (sym none) (subst (λ (s : FlatState). IsReady deltas s []) (sym is) (boot_ready deltas image harts limits some start (subst IsOrdered is ordered) (law deltas image harts limits start)))
 
--- and its homes account for all entries
-pub starts_kept : HomesSettle → (deltas : List DeltaValue) (flat : FlatState) (entries : List Entry) (homes : Homes) → homes ≡ homes_at_boot flat → entries ≡ [] → IsReady deltas flat entries → IsKept deltas flat entries homes 0
-starts_kept law deltas flat entries homes is none ready = record {
-  ready = ready;
-  housed = all_of homes 0 entries flat (subst (λ (h : Homes). AreSettled h flat) (sym is) (law (record { homes = []; worn = [] }) flat)) (sym (ap (λ (es : List Entry). length es) none));
-}
+-- and its homes, where they are wanted, account for all entries
+pub starts_kept : HomesSettle → (deltas : List DeltaValue) (flat : FlatState) (entries : List Entry) (homes : Option Homes) (wanted : Bool) → homes ≡ homes_wanted wanted flat → entries ≡ [] → IsReady deltas flat entries → IsKept deltas flat entries homes 0
+starts_kept law deltas flat entries homes wanted is none ready = record { ready = ready; housed = start_of law wanted flat homes entries is none }
 
 -- so these are its parts
-pub starts_at : HomesSettle → (deltas : List DeltaValue) (image : ImageValue) (harts : ℕ) (limits : LimitsValue) (flat : FlatState) (homes : Homes) (entries : List Entry) (listings : List ListingValue)
-    → flat ≡ boot_of image harts limits → homes ≡ homes_at_boot flat → entries ≡ [] → listings ≡ []
-    → shown deltas flat (homes_now homes 0 entries flat) entries listings None ≡ machine_at deltas image harts limits
-starts_at law deltas image harts limits flat homes entries listings is are none nothing =
-    let settled : AreSettled homes flat = subst (λ (h : Homes). AreSettled h flat) (sym are) (law (record { homes = []; worn = [] }) flat) in
-    let now : homes_now homes 0 entries flat ≡ homes_at_boot (boot_of image harts limits) =
-    all_accounted homes 0 entries flat settled (sym (ap (λ (es : List Entry). length es) none)) ∙ are ∙ ap homes_at_boot is in
-    ap (λ (h : Homes). shown deltas flat h entries listings None) now
-    ∙ ap (λ (s : FlatState). shown deltas s (homes_at_boot (boot_of image harts limits)) entries listings None) is
-    ∙ ap (λ (es : List Entry). shown deltas (boot_of image harts limits) (homes_at_boot (boot_of image harts limits)) es listings None) none
-    ∙ ap (λ (ls : List ListingValue). shown deltas (boot_of image harts limits) (homes_at_boot (boot_of image harts limits)) [] ls None) nothing
+pub starts_at : HomesSettle → (deltas : List DeltaValue) (image : ImageValue) (harts : ℕ) (limits : LimitsValue) (wanted : Bool) (flat : FlatState) (homes : Option Homes) (entries : List Entry) (listings : List ListingValue)
+    → flat ≡ boot_of image harts limits → homes ≡ homes_wanted wanted flat → entries ≡ [] → listings ≡ []
+    → shown deltas flat (own_homes homes 0 entries flat) entries listings None ≡ machine_at deltas image harts limits wanted
+starts_at law deltas image harts limits wanted flat homes entries listings is are none nothing =
+    let now : own_homes homes 0 entries flat ≡ homes_wanted wanted (boot_of image harts limits) = start_accounted law wanted flat homes entries are none ∙ ap (homes_wanted wanted) is in
+    ap (λ (h : Option Homes). shown deltas flat h entries listings None) now
+    ∙ ap (λ (s : FlatState). shown deltas s (homes_wanted wanted (boot_of image harts limits)) entries listings None) is
+    ∙ ap (λ (es : List Entry). shown deltas (boot_of image harts limits) (homes_wanted wanted (boot_of image harts limits)) es listings None) none
+    ∙ ap (λ (ls : List ListingValue). shown deltas (boot_of image harts limits) (homes_wanted wanted (boot_of image harts limits)) [] ls None) nothing

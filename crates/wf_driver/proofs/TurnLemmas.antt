@@ -1,5 +1,5 @@
 -- Whose turn it is, and turns that are made.
-use Rattle.std.proofs.Common.{◌≡◌, ◌≢◌, ◌<◌, ◌≤◌, ◌+◌, ◌-◌, ◌++◌, ℕ, zero, suc, List, [], ◌∷◌, Bool, true, false, cond, Option, Some, None, length, get_or, drop, refl, sym, subst, ap, ◌∙◌, inl, inr, arith}
+use Rattle.std.proofs.Common.{◌≡◌, ◌≢◌, ◌<◌, ◌≤◌, ◌+◌, ◌-◌, ◌++◌, ℕ, zero, suc, List, [], ◌∷◌, Bool, true, false, cond, Option, Some, None, is_some, length, get_or, drop, refl, sym, subst, ap, ◌∙◌, inl, inr, arith}
 use Rattle.std.specs.Prelude.{◌&&◌, IfSome, IsSomeAnd, if◌then◌else◌, nat_le, nat_lt, position, slice_get, slice_range}
 use Rattle.std.specs.Option.{option_or}
 use Rattle.std.specs.List.{position_or_len}
@@ -23,17 +23,17 @@ use Rattle.wf_report.specs.Listings.{ListingValue}
 use Rattle.wf_follow.specs.Places.{Place}
 use Rattle.wf_follow.specs.Units.{IsTurn, IsTurnOf, IsUnitOf, hart_in_turn, lowest_running, number_behind, only}
 use Rattle.wf_driver.proofs.StepLemmas.{allowed_outside}
-use Rattle.wf_driver.specs.Machines.{MachineValue, moment_of, place_of}
+use Rattle.wf_driver.specs.Machines.{MachineValue, moment_of, no_homes, place_of}
 use Rattle.wf_driver.specs.Making.{HasMade}
-use Rattle.wf_driver.specs.Housing.{homes_now}
+use Rattle.wf_driver.specs.Housing.{own_homes}
 use Rattle.wf_driver.specs.Keeping.{IsKept, IsReady}
 use Rattle.wf_homes.specs.Homes.{Homes}
 use Rattle.wf_legal.specs.Legal.{at_rest}
 use Rattle.wf_service.specs.Adding.{Adds}
 use Rattle.home_laws.specs.Laws.{HomesSettle, HomesStay}
-use Rattle.wf_driver.proofs.HousingLemmas.{IsAccounted, now_along}
+use Rattle.wf_driver.proofs.HousingLemmas.{IsAccounted, own_along, own_some}
 use Rattle.wf_driver.proofs.KeepLemmas.{kept_on}
-use Rattle.wf_driver.proofs.PlaceLemmas.{AreAlong, place_behind, shown}
+use Rattle.wf_driver.proofs.PlaceLemmas.{AreAlong, behind_homes, place_behind, shown}
 
 abbrev given : ℕ → Option ℕ
 given h = Some h
@@ -174,7 +174,7 @@ first_stopped s some none = by_harts s.harts some none
     by_harts (hart ∷ harts) n e = by_life hart harts (is_running hart.life) refl e
 
 -- a turn of a hart
-turned_from : (a b : MachineValue) (h : ℕ) → hart_in_turn (place_of a) ≡ Some h → HasMade (IsUnitOf h) a b → HasMade IsTurn a (record b { last = Some h })
+turned_from : (a b : MachineValue) (h : ℕ) → hart_in_turn (place_of a no_homes) ≡ Some h → HasMade (IsUnitOf h) a b → HasMade IsTurn a (record b { last = Some h })
 turned_from a b h turn made =
     record {
       made = made.made;
@@ -182,8 +182,17 @@ turned_from a b h turn made =
       listings = made.listings;
       legal = made.legal;
       reached = made.reached;
-      fits = subst (λ (o : Option ℕ). IsTurnOf o (place_of a) made.made (record (place_of b) { last = Some h })) (sym turn)
-          (made.fits.0, ap (λ (p : Place). record p { last = Some h }) made.fits.1);
+      fits = record {
+        each = λ homes own. (
+            let x = made.fits.each homes own in
+            record {
+              after = x.after;
+              own = x.own;
+              leads = subst (λ (o : Option ℕ). IsTurnOf o (place_of a homes) made.made (record (place_of b x.after) { last = Some h })) (sym turn)
+                  (x.leads.0, ap (λ (p : Place). record p { last = Some h }) x.leads.1);
+            });
+        kept = made.fits.kept;
+      };
     }
 
 -- what an idle of hart 0 makes, where no hart runs
@@ -201,51 +210,58 @@ idle_adds deltas flat entries later last rests some turn is =
       fits = refl;
     }
 
-idled_from : (a b : MachineValue) → hart_in_turn (place_of a) ≡ None → (c : Adds (moment_of a) a.entries (moment_of b) b.entries (λ es. es ≡ only (Hart 0) Idle)) → AreAlong a c.made b.homes → b.listings ≡ a.listings → b.last ≡ a.last
+idled_from : (a b : MachineValue) → hart_in_turn (place_of a no_homes) ≡ None → (c : Adds (moment_of a) a.entries (moment_of b) b.entries (λ es. es ≡ only (Hart 0) Idle)) → AreAlong a c.made b → is_some b.homes ≡ is_some a.homes → b.listings ≡ a.listings → b.last ≡ a.last
     → length b.flat.harts ≡ length a.flat.harts → HasMade IsTurn a b
-idled_from a b turn c homes listings last harts =
+idled_from a b turn c along kept listings last harts =
     record {
       made = c.made;
       entries = c.appended;
       listings = listings;
       legal = c.legal;
       reached = c.reached;
-      fits = subst (λ (o : Option ℕ). IsTurnOf o (place_of a) c.made (place_of b)) (sym turn) (c.fits, place_behind a b 0 c.made c.appended last c.reached homes harts);
+      fits = record {
+        each = λ homes own. record {
+          after = behind_homes a homes c.made;
+          own = along homes own;
+          leads = subst (λ (o : Option ℕ). IsTurnOf o (place_of a homes) c.made (place_of b (behind_homes a homes c.made))) (sym turn) (c.fits, place_behind a b 0 c.made homes c.appended last c.reached harts);
+        };
+        kept = kept;
+      };
     }
 
 -- a turn of a hart leaves a machine with these parts
-pub turned : (a b : MachineValue) (deltas : List DeltaValue) (flat : FlatState) (homes : Homes) (entries : List Entry) (listings : List ListingValue) (last : Option ℕ) (h : ℕ) → hart_in_turn (place_of a) ≡ Some h → HasMade (IsUnitOf h) a b
+pub turned : (a b : MachineValue) (deltas : List DeltaValue) (flat : FlatState) (homes : Option Homes) (entries : List Entry) (listings : List ListingValue) (last : Option ℕ) (h : ℕ) → hart_in_turn (place_of a no_homes) ≡ Some h → HasMade (IsUnitOf h) a b
     → shown deltas flat homes entries listings last ≡ b → HasMade IsTurn a (shown deltas flat homes entries listings (Some h))
 turned a b deltas flat homes entries listings last h turn made view =
     subst (λ (m : MachineValue). HasMade IsTurn a (record m { last = Some h })) (sym view) (turned_from a b h turn made)
 
 -- a turn where no hart runs
-pub idled : (deltas : List DeltaValue) (flat : FlatState) (entries later : List Entry) (listings : List ListingValue) (last : Option ℕ) (m : MachineValue) (old : Homes) (before : ℕ) (homes : Homes) (accounted : ℕ)
-    → shown deltas flat (homes_now old before entries flat) entries listings last ≡ m → IsAccounted flat entries old before homes accounted
-    → IsResting flat → 1 ≤ length flat.harts → hart_in_turn (place_of m) ≡ None → later ≡ entries ++ only (Hart 0) Idle → HasMade IsTurn m (shown deltas flat (homes_now homes accounted later flat) later listings last)
+pub idled : (deltas : List DeltaValue) (flat : FlatState) (entries later : List Entry) (listings : List ListingValue) (last : Option ℕ) (m : MachineValue) (old : Option Homes) (before : ℕ) (homes : Option Homes) (accounted : ℕ)
+    → shown deltas flat (own_homes old before entries flat) entries listings last ≡ m → IsAccounted flat entries old before homes accounted
+    → IsResting flat → 1 ≤ length flat.harts → hart_in_turn (place_of m no_homes) ≡ None → later ≡ entries ++ only (Hart 0) Idle → HasMade IsTurn m (shown deltas flat (own_homes homes accounted later flat) later listings last)
 idled deltas flat entries later listings last m old before homes accounted view accounts rests some turn is =
     let a : MachineValue = shown deltas flat homes entries listings last in
-    let b : MachineValue = shown deltas flat (homes_now homes accounted later flat) later listings last in
-    let same : a ≡ m = ap (λ (x : Homes). shown deltas flat x entries listings last) accounts.now ∙ view in
-    let turn_of_a : hart_in_turn (place_of a) ≡ None = ap (λ (x : MachineValue). hart_in_turn (place_of x)) same ∙ turn in
+    let b : MachineValue = shown deltas flat (own_homes homes accounted later flat) later listings last in
+    let same : a ≡ m = ap (λ (x : Option Homes). shown deltas flat x entries listings last) accounts.now ∙ view in
+    let turn_of_a : hart_in_turn (place_of a no_homes) ≡ None = ap (λ (x : MachineValue). hart_in_turn (place_of x no_homes)) same ∙ turn in
     let c = idle_adds deltas flat entries later last rests some turn_of_a is in
     subst (λ (x : MachineValue). HasMade IsTurn x b) same
-    (idled_from a b turn_of_a c (now_along deltas flat flat entries later (λ es. es ≡ only (Hart 0) Idle) homes accounted accounts.all rests.no_one c) refl refl refl)
+    (idled_from a b turn_of_a c (own_along deltas flat flat entries later (λ es. es ≡ only (Hart 0) Idle) homes accounted accounts.all rests.no_one c) (own_some homes accounted later flat) refl refl refl)
 
 -- what the machine keeps, behind such a turn
-pub idle_kept : HomesSettle → HomesStay → (deltas : List DeltaValue) (flat : FlatState) (entries later : List Entry) (listings : List ListingValue) (last : Option ℕ) (m : MachineValue) (old : Homes) (before : ℕ) (homes : Homes) (accounted : ℕ)
-    → shown deltas flat (homes_now old before entries flat) entries listings last ≡ m → IsAccounted flat entries old before homes accounted
-    → IsReady deltas flat entries → hart_in_turn (place_of m) ≡ None → later ≡ entries ++ only (Hart 0) Idle → IsKept deltas flat later homes accounted
+pub idle_kept : HomesSettle → HomesStay → (deltas : List DeltaValue) (flat : FlatState) (entries later : List Entry) (listings : List ListingValue) (last : Option ℕ) (m : MachineValue) (old : Option Homes) (before : ℕ) (homes : Option Homes) (accounted : ℕ)
+    → shown deltas flat (own_homes old before entries flat) entries listings last ≡ m → IsAccounted flat entries old before homes accounted
+    → IsReady deltas flat entries → hart_in_turn (place_of m no_homes) ≡ None → later ≡ entries ++ only (Hart 0) Idle → IsKept deltas flat later homes accounted
 idle_kept settle stay deltas flat entries later listings last m old before homes accounted view accounts ready turn is =
-    let a : MachineValue = shown deltas flat (homes_now old before entries flat) entries listings last in
-    let turn_of_a : hart_in_turn (place_of a) ≡ None = ap (λ (x : MachineValue). hart_in_turn (place_of x)) view ∙ turn in
+    let a : MachineValue = shown deltas flat (own_homes old before entries flat) entries listings last in
+    let turn_of_a : hart_in_turn (place_of a no_homes) ≡ None = ap (λ (x : MachineValue). hart_in_turn (place_of x no_homes)) view ∙ turn in
     let c = idle_adds deltas flat entries later last ready.rests ready.some turn_of_a is in
     kept_on settle stay deltas flat flat entries later (λ es. es ≡ only (Hart 0) Idle) old before homes accounted accounts ready c ready.rests refl
 
 -- whose turn it is in a machine, whose parts are these
-pub next_found : (deltas : List DeltaValue) (flat : FlatState) (entries : List Entry) (listings : List ListingValue) (last : Option ℕ) (m : MachineValue) (above first : Option ℕ) (number : ℕ) (homes : Homes) → shown deltas flat homes entries listings last ≡ m
-    → number ≡ number_behind last → above ≡ lowest_running number 0 flat.harts → first ≡ lowest_running 0 0 flat.harts → option_or above first ≡ hart_in_turn (place_of m)
+pub next_found : (deltas : List DeltaValue) (flat : FlatState) (entries : List Entry) (listings : List ListingValue) (last : Option ℕ) (m : MachineValue) (above first : Option ℕ) (number : ℕ) (homes : Option Homes) → shown deltas flat homes entries listings last ≡ m
+    → number ≡ number_behind last → above ≡ lowest_running number 0 flat.harts → first ≡ lowest_running 0 0 flat.harts → option_or above first ≡ hart_in_turn (place_of m no_homes)
 next_found deltas flat entries listings last m above first number homes view n a f =
     ap (λ (x : Option ℕ). option_or x first) (a ∙ ap (λ (k : ℕ). lowest_running k 0 flat.harts) n)
     ∙ ap (λ (x : Option ℕ). option_or (lowest_running (number_behind last) 0 flat.harts) x) f
-    ∙ ap (λ (x : MachineValue). hart_in_turn (place_of x)) view
+    ∙ ap (λ (x : MachineValue). hart_in_turn (place_of x no_homes)) view

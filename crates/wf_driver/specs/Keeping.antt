@@ -1,5 +1,5 @@
 -- What a machine keeps between two units.
-use Rattle.std.specs.Prelude.{ℕ, List, ◌≡◌, ◌≤◌, length}
+use Rattle.std.specs.Prelude.{ℕ, List, Option, ◌≡◌, ◌≤◌, length}
 use Rattle.wf_outside.specs.declared.sizes.TheConstants.{MOST_FRAMES}
 use Rattle.wf_outside.specs.Images.{DeltaValue}
 use Rattle.wf_flat.specs.declared.event.Entry.{Entry}
@@ -8,7 +8,7 @@ use Rattle.wf_homes.specs.Homes.{Homes}
 use Rattle.wf_legal.specs.Legal.{IsLegal, at_rest, end_of}
 use Rattle.wf_sound.specs.Sound.{IsSound}
 use Rattle.wf_service.specs.Resting.{IsResting}
-use Rattle.wf_driver.specs.Housing.{AreHomesOf}
+use Rattle.wf_driver.specs.Housing.{AreOwnHomesOf}
 
 -- A machine with these patches rests, and has from 1 to 64 harts; and its entries are legal, and
 -- led to it from a sound start, which had few births.
@@ -23,8 +23,8 @@ pub record IsReady (deltas : List DeltaValue) (flat : FlatState) (entries : List
   pub legal : IsLegal (at_rest deltas start) entries
   pub reached : at_rest deltas flat ≡ end_of (at_rest deltas start) entries
 
--- a machine is ready, and its homes account for so many of its entries
+-- a machine is ready, and its homes, if it has some, account for so many of its entries
 pub record IsKept (deltas : List DeltaValue) (flat : FlatState) (entries : List Entry)
-    (homes : Homes) (accounted : ℕ) : Type 0 where
+    (homes : Option Homes) (accounted : ℕ) : Type 0 where
   pub ready : IsReady deltas flat entries
-  pub housed : AreHomesOf homes accounted entries flat
+  pub housed : AreOwnHomesOf homes accounted entries flat

@@ -3,7 +3,7 @@ use Rattle.std.specs.Prelude.{ℕ, List, [], ◌∷◌, ◌++◌, ◌≡◌, len
 use Rattle.wf_flat.specs.declared.event.Entry.{Entry}
 use Rattle.wf_legal.specs.Legal.{IsLegal, end_of}
 use Rattle.wf_follow.specs.Places.{Place}
-use Rattle.wf_driver.specs.Machines.{MachineValue, moment_of, place_of}
+use Rattle.wf_driver.specs.Machines.{LeadsOn, MachineValue, moment_of}
 
 -- A machine made legal entries that lead to its new state, and no listing. They lead in this way
 -- from its old place to its new one.
@@ -14,7 +14,7 @@ pub record HasMade (Way : Place → List Entry → Place → Type 0) (old new : 
   pub listings : new.listings ≡ old.listings
   pub legal : IsLegal (moment_of old) made
   pub reached : moment_of new ≡ end_of (moment_of old) made
-  pub fits : Way (place_of old) made (place_of new)
+  pub fits : LeadsOn (λ p q. Way p made q) old new
 
 -- a machine with one more listing, of these lines, at the place where it stands
 abbrev pub with_listing : List ℕ → MachineValue → MachineValue

@@ -1,5 +1,5 @@
 //! The machine.
-ghost use Rattle.std.specs.Prelude.{◌≡◌, ◌<◌, ◌≤◌, ◌^◌, ℕ, Err, IfOk, IfSome, None, OnErr, OnOk, false, length, position, true};
+ghost use Rattle.std.specs.Prelude.{◌≡◌, ◌<◌, ◌≤◌, ◌^◌, ℕ, Err, IfOk, is_some, IfSome, None, OnErr, OnOk, false, length, position, true};
 ghost use Rattle.std.specs.List.{AllByRecursion};
 ghost use Rattle.wf_flat.specs.Boot.{boot_of};
 ghost use Rattle.wf_flat.specs.Counts.{used_of};
@@ -11,7 +11,8 @@ ghost use Rattle.wf_report.specs.Reports.{report_bytes};
 ghost use Rattle.wf_follow.specs.Follows.{IsCallOf};
 ghost use Rattle.wf_follow.specs.Units.{IsTurn, IsUnitOf, hart_in_turn, lowest_running, number_behind};
 ghost use Rattle.wf_follow.specs.Unbuilt.{is_built_command};
-ghost use Rattle.wf_driver.specs.Machines.{machine_at, place_of, HasObeyed, HasStopped, StandsBetween};
+ghost use Rattle.wf_driver.specs.Machines.{homes_wanted, machine_at, place_of, HasObeyed, HasStopped, MayList, StandsBetween};
+ghost use Rattle.wf_driver.specs.Machines.{no_homes};
 ghost use Rattle.wf_driver.specs.Making.{HasMade, with_listing};
 
 use crate::housing::account;
@@ -76,14 +77,26 @@ fn entries_are_few(entries: &[Entry])
     let _bytes = mem::size_of_val(entries);
 }
 
+// The homes at a start, where they are wanted.
+fn homes_if(alloc: Global, flat: &Flat, wanted: bool) -> Result<Option<Homes>, Memory>
+    ensures { IfOk result (λ homes. homes ≡ homes_wanted wanted flat.now) }
+{
+    if wanted {
+        Ok(Some(Homes::boot(alloc, flat)?))
+    } else {
+        Ok(None)
+    }
+}
+
 /// A machine that runs a script: the patches of the run; the state of the flat machine, which is at
-/// rest; where everything lay behind the first `accounted` entries; the journal so far; the listings
+/// rest; where everything lay behind the first `accounted` entries, if its script lists page tables;
+/// the journal so far; the listings
 /// at their places; and the hart that `run` stepped last.
 #[derive(Drop)]
 pub struct Machine {
     deltas: Vec<Delta>,
     flat: Flat,
-    homes: Homes,
+    homes: Option<Homes>,
     accounted: usize,
     entries: Vec<Entry>,
     listings: Vec<Listing>,
@@ -92,7 +105,7 @@ pub struct Machine {
 
 impl Model for Machine {
     ghost use Rattle.wf_driver.specs.Machines.{MachineValue};
-    ghost use Rattle.wf_driver.specs.Housing.{homes_now};
+    ghost use Rattle.wf_driver.specs.Housing.{own_homes};
     ghost use Rattle.wf_driver.specs.Keeping.{IsKept};
 
     ghost Value = { MachineValue };
@@ -100,7 +113,7 @@ impl Model for Machine {
     ghost view = { λ m. record {
       deltas = m.deltas.items;
       flat = m.flat;
-      homes = homes_now m.homes m.accounted m.entries.items m.flat;
+      homes = own_homes m.homes m.accounted m.entries.items m.flat;
       entries = m.entries.items;
       listings = m.listings.items;
       last = m.last;
@@ -112,7 +125,7 @@ impl Model for Machine {
 
 impl Machine {
     /// So many harts, from 1 to 64, at the start of an image, with an empty journal, where `deltas`
-    /// are the patches of the run.
+    /// are the patches of the run, and `wanted` says whether page tables are to be listed.
     ///
     /// # Errors
     ///
@@ -123,13 +136,14 @@ impl Machine {
         harts: u8,
         limits: Limits,
         deltas: Vec<Delta>,
+        wanted: bool,
     ) -> Result<Machine, BootFault>
         requires some { 1 ≤ harts }
         requires few { harts ≤ 64 }
         requires patches { AllByRecursion IsDelta deltas.items }
         requires few_patches { length deltas.items < 2 ^ 32 }
         ensures ok { IfOk result
-            (λ machine. machine ≡ machine_at deltas.items image.now harts limits) }
+            (λ machine. machine ≡ machine_at deltas.items image.now harts limits wanted) }
         // The frames suffice, or both numbers say that they don't.
         ensures fits { OnOk result (used_of (boot_of image.now harts limits) ≤ limits.frames) }
         ensures no_frames { (need have : ℕ) → result ≡ Err (BootFault.NoFrames need have)
@@ -142,7 +156,7 @@ impl Machine {
         limits_are_sizes(limits);
         homes_settle();
         let flat = boot(alloc, image, harts, limits)?;
-        let homes = Homes::boot(alloc, &flat)?;
+        let homes = homes_if(alloc, &flat, wanted)?;
         Ok(Machine {
             deltas,
             flat,
@@ -156,7 +170,7 @@ impl Machine {
 
     // The hart whose turn it is, if one runs. It takes at most two passes over the harts.
     fn next_hart(&self) -> Option<u8>
-        ensures next { result ≡ hart_in_turn (place_of self.now) }
+        ensures next { result ≡ hart_in_turn (place_of self.now no_homes) }
         ensures there { IfSome result (λ hart. hart < length self.now.flat.harts) }
     {
         let flat = &self.flat;
@@ -173,6 +187,7 @@ impl Machine {
         ensures err { OnErr result (self.new ≡ self.old) }
         ensures harts { length self.new.flat.harts ≡ length self.old.flat.harts }
         ensures deltas { self.new.deltas ≡ self.old.deltas }
+        ensures homes { is_some self.new.homes ≡ is_some self.old.homes }
     {
         journals_keep_sound();
         births_are_few();
@@ -191,11 +206,12 @@ impl Machine {
 
     // A turn where no hart runs: hart 0 idles. After an error nothing has changed.
     fn idle(&mut self, alloc: Global) -> Result<(), Memory>
-        requires { hart_in_turn (place_of self.old) ≡ None }
+        requires { hart_in_turn (place_of self.old no_homes) ≡ None }
         ensures ok { OnOk result (HasMade IsTurn self.old self.new) }
         ensures err { OnErr result (self.new ≡ self.old) }
         ensures harts { length self.new.flat.harts ≡ length self.old.flat.harts }
         ensures deltas { self.new.deltas ≡ self.old.deltas }
+        ensures homes { is_some self.new.homes ≡ is_some self.old.homes }
     {
         homes_settle();
         homes_stay();
@@ -219,6 +235,7 @@ impl Machine {
         ensures err { OnErr result (self.new ≡ self.old) }
         ensures harts { length self.new.flat.harts ≡ length self.old.flat.harts }
         ensures deltas { self.new.deltas ≡ self.old.deltas }
+        ensures homes { is_some self.new.homes ≡ is_some self.old.homes }
     {
         match self.next_hart() {
             Some(hart) => {
@@ -237,6 +254,7 @@ impl Machine {
         ensures err { OnErr result (HasStopped (Command.Step hart n) self.old self.new) }
         ensures harts { length self.new.flat.harts ≡ length self.old.flat.harts }
         ensures deltas { self.new.deltas ≡ self.old.deltas }
+        ensures homes { is_some self.new.homes ≡ is_some self.old.homes }
     {
         for _ in 0..n {
             self.make_unit(alloc, hart)?;
@@ -250,6 +268,7 @@ impl Machine {
         ensures err { OnErr result (HasStopped (Command.Run n) self.old self.new) }
         ensures harts { length self.new.flat.harts ≡ length self.old.flat.harts }
         ensures deltas { self.new.deltas ≡ self.old.deltas }
+        ensures homes { is_some self.new.homes ≡ is_some self.old.homes }
     {
         for _ in 0..n {
             self.make_turn(alloc)?;
@@ -264,6 +283,7 @@ impl Machine {
         ensures err { OnErr result (self.new ≡ self.old) }
         ensures harts { length self.new.flat.harts ≡ length self.old.flat.harts }
         ensures deltas { self.new.deltas ≡ self.old.deltas }
+        ensures homes { is_some self.new.homes ≡ is_some self.old.homes }
     {
         journals_keep_sound();
         births_are_few();
@@ -293,6 +313,7 @@ impl Machine {
         ensures err { OnErr result (self.new ≡ self.old) }
         ensures harts { length self.new.flat.harts ≡ length self.old.flat.harts }
         ensures deltas { self.new.deltas ≡ self.old.deltas }
+        ensures homes { is_some self.new.homes ≡ is_some self.old.homes }
     {
         self.call(alloc, Request::Patches { patch: index })
     }
@@ -304,6 +325,7 @@ impl Machine {
         ensures err { OnErr result (self.new ≡ self.old) }
         ensures harts { length self.new.flat.harts ≡ length self.old.flat.harts }
         ensures deltas { self.new.deltas ≡ self.old.deltas }
+        ensures homes { is_some self.new.homes ≡ is_some self.old.homes }
     {
         self.call(
             alloc,
@@ -320,6 +342,7 @@ impl Machine {
         ensures err { OnErr result (self.new ≡ self.old) }
         ensures harts { length self.new.flat.harts ≡ length self.old.flat.harts }
         ensures deltas { self.new.deltas ≡ self.old.deltas }
+        ensures homes { is_some self.new.homes ≡ is_some self.old.homes }
     {
         self.call(
             alloc,
@@ -346,6 +369,7 @@ impl Machine {
         ensures err { OnErr result (self.new ≡ self.old) }
         ensures harts { length self.new.flat.harts ≡ length self.old.flat.harts }
         ensures deltas { self.new.deltas ≡ self.old.deltas }
+        ensures homes { is_some self.new.homes ≡ is_some self.old.homes }
     {
         let lines = regs_listing(alloc, hart, &self.flat)?;
         self.push_listing(lines)
@@ -359,6 +383,7 @@ impl Machine {
         ensures err { OnErr result (self.new ≡ self.old) }
         ensures harts { length self.new.flat.harts ≡ length self.old.flat.harts }
         ensures deltas { self.new.deltas ≡ self.old.deltas }
+        ensures homes { is_some self.new.homes ≡ is_some self.old.homes }
     {
         let lines = mem_listing(alloc, va, n, &self.flat)?;
         self.push_listing(lines)
@@ -366,10 +391,12 @@ impl Machine {
 
     // The listing of a generation's page table. After an error nothing has changed.
     fn list_tables(&mut self, alloc: Global, generation: u32) -> Result<(), Memory>
+        requires { is_some self.old.homes ≡ true }
         ensures ok { OnOk result (HasObeyed (Command.Tables generation) self.old self.new) }
         ensures err { OnErr result (self.new ≡ self.old) }
         ensures harts { length self.new.flat.harts ≡ length self.old.flat.harts }
         ensures deltas { self.new.deltas ≡ self.old.deltas }
+        ensures homes { is_some self.new.homes ≡ is_some self.old.homes }
     {
         homes_settle();
         account(
@@ -379,7 +406,10 @@ impl Machine {
             &self.entries,
             &self.flat,
         )?;
-        let lines = tables_listing(alloc, generation, &self.homes, &self.flat)?;
+        let Some(homes) = &self.homes else {
+            unreachable!();
+        };
+        let lines = tables_listing(alloc, generation, homes, &self.flat)?;
         self.push_listing(lines)
     }
 
@@ -393,10 +423,12 @@ impl Machine {
     pub fn obey(&mut self, alloc: Global, command: Command) -> Result<(), Memory>
         requires there { IsCommand (length self.old.flat.harts) (length self.old.deltas) command }
         requires built { is_built_command command ≡ true }
+        requires housed { MayList (is_some self.old.homes) command }
         ensures ok { OnOk result (HasObeyed command self.old self.new) }
         ensures memory { OnErr result (StandsBetween command self.old self.new) }
         ensures harts { length self.new.flat.harts ≡ length self.old.flat.harts }
         ensures deltas { self.new.deltas ≡ self.old.deltas }
+        ensures homes { is_some self.new.homes ≡ is_some self.old.homes }
     {
         match command {
             Command::Step { hart, n } => self.step(alloc, hart, n),

@@ -6,10 +6,10 @@ use Rattle.wf_status.specs.declared.status.Status.{Status}
 use Rattle.wf_status.specs.declared.status.Status.TheVariants.{Done, Sink, Words}
 use Rattle.wf_patches.specs.Needed as patches
 use Rattle.wf_legal.specs.Legal.{IsLegal, Moment, end_of}
-use Rattle.wf_follow.specs.Places.{place_at}
+use Rattle.wf_follow.specs.Places.{Place, place_at}
 use Rattle.wf_follow.specs.Follows.{Follows}
 use Rattle.wf_follow.specs.Runs.{IsRun, start_of}
-use Rattle.wf_driver.specs.Machines.{MachineValue, moment_of, place_of}
+use Rattle.wf_driver.specs.Machines.{MachineValue, moment_of}
 use Rattle.wf_usage.specs.declared.sizes.Sizes.{Sizes}
 use Rattle.wf_fetch.specs.Stages.{image_stage}
 use Rattle.wf_run.specs.Stages.{RunFilesValue, files_stage, limits_of, script_stage}
@@ -32,10 +32,11 @@ CallsFor sizes held image script answer =
 -- A machine made one run of the flat machine, from its start on: of one journal, which is legal and
 -- follows the script command by command, with the listings.
 pub record HasRun (sizes : Sizes) (files : RunFilesValue) (machine : MachineValue) : Type 0 where
+  pub place : Place
   pub legal : IsLegal (start_for sizes files.deltas files.image) machine.entries
   pub follows : Follows files.script.commands
       (place_at (start_for sizes files.deltas files.image)) machine.entries machine.listings
-      (place_of machine)
+      place
   pub reached : moment_of machine
       ≡ end_of (start_for sizes files.deltas files.image) machine.entries
 

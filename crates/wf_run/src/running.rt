@@ -1,5 +1,5 @@
 //! Runs of scripts, and their reports.
-ghost use Rattle.std.specs.Prelude.{◌≡◌, ◌<◌, ◌≤◌, ◌⊎◌, ◌^◌, ℕ, List, IfErr, IfOk, IfSome, OnOk, Err, length};
+ghost use Rattle.std.specs.Prelude.{◌≡◌, ◌<◌, ◌≤◌, ◌⊎◌, ◌^◌, ℕ, List, IfErr, IfOk, IfSome, OnOk, Err, is_some, length};
 ghost use Rattle.std.specs.List.{AllByRecursion};
 ghost use Rattle.wf_outside.specs.Files.{HasRisen};
 ghost use Rattle.wf_status.specs.declared.status.Status.{Status};
@@ -7,12 +7,13 @@ ghost use Rattle.wf_script.specs.Commands.{IsCommand, IsScript};
 ghost use Rattle.wf_sound.specs.Sound.{IsDelta};
 ghost use Rattle.wf_report.specs.Reports.{report_bytes};
 ghost use Rattle.wf_follow.specs.Unbuilt.{AreBuilt};
-ghost use Rattle.wf_driver.specs.Machines.{machine_at};
+ghost use Rattle.wf_driver.specs.Machines.{MayList, machine_at};
 ghost use Rattle.wf_journal.specs.Journals.{IsSized};
 ghost use Rattle.wf_fetch.specs.Stages.{IsReadFault};
 ghost use Rattle.wf_patches.specs.Needed.{OfSome, held_in};
 ghost use Rattle.wf_run.specs.Stages.{frames_used, limits_of};
 ghost use Rattle.wf_run.specs.Answers.{CallsFor, HasRun, HoldsReport, HoldsRun, MayFail, OfNeeded};
+ghost use Rattle.wf_run.specs.Following as following;
 ghost use Rattle.wf_run.specs.Following.{HasFollowed, IsStartStatus};
 
 use crate::files::{RunFiles, fetch_files};
@@ -52,6 +53,7 @@ fn follow(machine: &mut Machine, alloc: Global, commands: &[Command]) -> Result<
     requires there { AllByRecursion
         (IsCommand (length machine.old.flat.harts) (length machine.old.deltas)) commands.now }
     requires built { AreBuilt commands.now }
+    requires housed { AllByRecursion (MayList (is_some machine.old.homes)) commands.now }
     ensures { OnOk result (HasFollowed commands.now machine.old machine.new) }
 {
     for command in commands {
@@ -60,14 +62,40 @@ fn follow(machine: &mut Machine, alloc: Global, commands: &[Command]) -> Result<
     Ok(())
 }
 
-// The machine of a run at its start, with these patches; or the limit of its frames.
-fn start(alloc: Global, sizes: Sizes, image: &Image, deltas: Vec<Delta>) -> Result<Machine, Status>
+// Whether a command lists a page table.
+fn is_tables(command: Command) -> bool
+    ensures { result ≡ following.is_tables command }
+{
+    match command {
+        Command::Tables { .. } => true,
+        Command::Step { .. } | Command::Tick { .. } | Command::Run { .. } => false,
+        Command::Patch { .. } | Command::Create { .. } | Command::Delete { .. } => false,
+        Command::Regs { .. } | Command::Mem { .. } => false,
+    }
+}
+
+// Whether one of the commands does.
+fn list_tables(commands: &[Command]) -> bool
+    ensures { result ≡ following.list_tables commands.now }
+{
+    commands.iter().any(|command| is_tables(*command))
+}
+
+// The machine of a run at its start, with these patches, and with homes where page tables are to be
+// listed; or the limit of its frames.
+fn start(
+    alloc: Global,
+    sizes: Sizes,
+    image: &Image,
+    deltas: Vec<Delta>,
+    wanted: bool,
+) -> Result<Machine, Status>
     requires sized { IsSized sizes.harts sizes.frames }
     requires patches { AllByRecursion IsDelta deltas.items }
     requires few { length deltas.items < 2 ^ 32 }
     ensures ok { IfOk result
         (λ machine. machine
-        ≡ machine_at deltas.items image.now sizes.harts (limits_of sizes)) }
+        ≡ machine_at deltas.items image.now sizes.harts (limits_of sizes) wanted) }
     ensures fits { OnOk result (frames_used sizes image.now ≤ sizes.frames) }
     ensures cause { IfErr result (IsStartStatus sizes image.now) }
 {
@@ -76,7 +104,7 @@ fn start(alloc: Global, sizes: Sizes, image: &Image, deltas: Vec<Delta>) -> Resu
         last_writes: MOST_WRITES,
         last_birth: MOST_BIRTHS,
     };
-    match Machine::new(alloc, image, sizes.harts, limits, deltas) {
+    match Machine::new(alloc, image, sizes.harts, limits, deltas, wanted) {
         Ok(machine) => Ok(machine),
         Err(BootFault::NoFrames { need, have }) => Err(Status::Limit {
             what: LimitKind::Frames,
@@ -104,7 +132,8 @@ fn run(alloc: Global, sizes: Sizes, files: RunFiles) -> Result<Ran, Status>
         script,
         deltas,
     } = files;
-    let mut machine = start(alloc, sizes, &image, deltas)?;
+    let wanted = list_tables(&script.commands);
+    let mut machine = start(alloc, sizes, &image, deltas, wanted)?;
     match follow(&mut machine, alloc, &script.commands) {
         Ok(()) => Ok(Ran { script, machine }),
         Err(Memory) => Err(Status::Memory),

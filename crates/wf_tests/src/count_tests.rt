@@ -208,7 +208,7 @@ fn counted(alloc: Global, words: &[u64], last_writes: u64, n: u64) -> Result<Vec
         last_birth: 1000,
     };
     let image = small_image(alloc, words)?;
-    let mut machine = Machine::new(alloc, &image, 1, limits, Vec::new(alloc))?;
+    let mut machine = Machine::new(alloc, &image, 1, limits, Vec::new(alloc), false)?;
     machine.obey(alloc, Command::Step { hart: 0, n })?;
     Ok(machine.report(alloc, &[])?)
 }

@@ -12,7 +12,7 @@ use Rattle.wf_gen.specs.Files.{made_files}
 use Rattle.wf_legal.specs.Legal.{Moment}
 use Rattle.wf_script.specs.Commands.{ScriptValue}
 use Rattle.wf_report.specs.Reports.{report_bytes}
-use Rattle.wf_driver.specs.Machines.{MachineValue, place_of}
+use Rattle.wf_driver.specs.Machines.{MachineValue}
 use Rattle.wf_patches.specs.Needed.{held_in}
 use Rattle.wf_usage.specs.declared.sizes.TheConstants.{USUAL}
 use Rattle.wf_run.specs.Answers as runs
@@ -34,7 +34,7 @@ line_is functions script machine text made t = record {
     run = record {
       entries = machine.entries;
       listings = machine.listings;
-      place = place_of machine;
+      place = made.run.made.place;
       legal = made.run.made.legal;
       follows = made.run.made.follows;
       text_is = ap (λ (m : Moment). report_bytes made.run.files.script.patches machine.entries machine.listings m.flat) made.run.made.reached;

@@ -5,11 +5,11 @@ use Rattle.wf_legal.specs.Legal.{at_rest}
 use Rattle.wf_sound.specs.Sound.{IsSound}
 use Rattle.wf_verdict.specs.Requests.{IsKernelRequest}
 use Rattle.wf_request.specs.Requesting.{IsServed}
-use Rattle.wf_driver.specs.Housing.{homes_now}
+use Rattle.wf_driver.specs.Housing.{own_homes}
 use Rattle.wf_driver.specs.Machines.{MachineValue}
 use Rattle.wf_driver.proofs.HousingLemmas.{IsAccounted}
 use Rattle.wf_driver.proofs.KeepLemmas.{kept_after, ready_births, ready_sound}
-use Rattle.wf_driver.proofs.MadeLemmas.{same_harts, served_made, unmade}
+use Rattle.wf_driver.proofs.MadeLemmas.{same_harts, same_homes, served_made, unmade}
 use Rattle.wf_driver.proofs.machine.Machine.call.Goals as goal
 
 pub serve_kernel-requires-clause-sound : goal.serve_kernel-requires-clause-sound
@@ -59,5 +59,13 @@ returns-clause-err c =
 
 pub returns-clause-harts : goal.returns-clause-harts
 returns-clause-harts c =
-    same_harts c.self.inside.deltas.items c.self.inside.flat c.serve_kernel.new.flat (homes_now c.self.inside.homes c.self.inside.accounted c.self.inside.entries.items c.self.inside.flat) c.self.inside.entries.items c.self.inside.listings.items
+    same_harts c.self.inside.deltas.items c.self.inside.flat c.serve_kernel.new.flat (own_homes c.self.inside.homes c.self.inside.accounted c.self.inside.entries.items c.self.inside.flat) c.self.inside.entries.items c.self.inside.listings.items
     c.self.inside.last c.args.self.now c.self.view_is c.serve_kernel.ensures.harts
+
+pub returns-clause-homes : goal.returns-clause-homes
+returns-clause-homes c =
+    let is : IsAccounted c.self.inside.flat c.self.inside.entries.items c.self.inside.homes c.self.inside.accounted c.account.new.homes c.account.new.accounted = record {
+      now = rw c.deref-2.ensures.value at c.in_ok-account.ensures.homes;
+      all = rw c.deref-2.ensures.value at c.in_ok-account.ensures.all;
+    } in
+    same_homes c.self.inside.deltas.items c.self.inside.flat c.serve_kernel.new.flat c.self.inside.entries.items c.serve_kernel.new.journal.items c.self.inside.listings.items c.self.inside.last c.args.self.now c.self.inside.homes c.self.inside.accounted c.account.new.homes c.account.new.accounted c.self.view_is is.now

@@ -1,6 +1,5 @@
-use Rattle.std.proofs.Common.{◌≡◌, ◌∙◌, ap, refl}
+use Rattle.std.proofs.Common.{◌≡◌, ◌∙◌, Some, ap, refl, sym}
 use Rattle.std.proofs.lemmas.Result.{on_err_weaker, on_ok_weaker}
-use Rattle.wf_homes.specs.Homes.{Homes}
 use Rattle.wf_tables.specs.Tables.{tables_lines}
 use Rattle.wf_driver.specs.Machines.{MachineValue}
 use Rattle.wf_driver.specs.Making.{with_listing}
@@ -40,10 +39,13 @@ returns-clause-ok c =
       now = rw c.deref.ensures.value at c.in_ok-account.ensures.homes;
       all = rw c.deref.ensures.value at c.in_ok-account.ensures.all;
     } in
-    let same = unmade c.homes_settle.ensures c.self.inside.deltas.items c.self.inside.flat c.self.inside.flat c.self.inside.entries.items c.self.inside.entries.items c.self.inside.listings.items c.self.inside.last c.args.self.now c.self.inside.homes c.self.inside.accounted c.account.new.homes c.account.new.accounted c.self.view_is is refl refl in
-    let lines : c.in_ok-lines.lines.items ≡ tables_lines c.args.generation c.args.self.now.homes c.args.self.now.flat =
-    c.in_ok-lines.ensures ∙ ap (λ (h : Homes). tables_lines c.args.generation h c.self.inside.flat) is.now ∙ ap (λ (m : MachineValue). tables_lines c.args.generation m.homes m.flat) c.self.view_is in
-    on_ok_weaker c.push_listing.result (λ e. tables_obeyed c.args.generation c.in_ok-lines.lines.items c.args.self.now c.push_listing.new.self lines (e ∙ ap (with_listing c.in_ok-lines.lines.items) same)) c.push_listing.ensures.ok
+    let same = unmade c.homes_settle.ensures c.self.inside.deltas.items c.self.inside.flat c.self.inside.flat c.self.inside.entries.items c.self.inside.entries.items c.self.inside.listings.items c.self.inside.last c.args.self.now c.self.inside.homes
+    c.self.inside.accounted c.account.new.homes c.account.new.accounted c.self.view_is is refl refl in
+    let some : c.args.self.now.homes ≡ Some c.in-Some.homes = sym (ap (λ (m : MachineValue). m.homes) c.self.view_is) ∙ sym is.now ∙ c.in-Some.is in
+    let lines : c.in_ok-lines.lines.items ≡ tables_lines c.args.generation c.in-Some.homes c.args.self.now.flat =
+    c.in_ok-lines.ensures ∙ ap (λ (m : MachineValue). tables_lines c.args.generation c.in-Some.homes m.flat) c.self.view_is in
+    on_ok_weaker c.push_listing.result
+    (λ e. tables_obeyed c.args.generation c.in_ok-lines.lines.items c.args.self.now c.push_listing.new.self c.in-Some.homes some lines (e ∙ ap (with_listing c.in_ok-lines.lines.items) same)) c.push_listing.ensures.ok
 
 pub returns-clause-err : goal.returns-clause-err
 returns-clause-err c =

@@ -21,9 +21,9 @@ invariant_of-result c =
       patches = c.requires.patches;
       few_patches = c.requires.few_patches;
     } in
-    starts_kept c.homes_settle.ensures c.args.deltas.items c.in_ok-flat.flat c.new.result.items c.in_ok-homes.homes c.in_ok-homes.ensures c.new.ensures.items
+    starts_kept c.homes_settle.ensures c.args.deltas.items c.in_ok-flat.flat c.new.result.items c.in_ok-homes.homes c.args.wanted c.in_ok-homes.ensures c.new.ensures.items
     (starts_ready c.args.deltas.items image c.args.harts c.args.limits c.in_ok-flat.flat c.new.result.items c.in_ok-flat.ensures.ok c.new.ensures.items c.requires.some start c.in_ok-flat.ensures.ordered c.starts_are_sound.ensures)
 
 pub returns-clause-ok : goal.returns-clause-ok
 returns-clause-ok c =
-    starts_at c.homes_settle.ensures c.args.deltas.items c.args.image.now c.args.harts c.args.limits c.in_ok-flat.flat c.in_ok-homes.homes c.new.result.items c.new-2.result.items c.in_ok-flat.ensures.ok c.in_ok-homes.ensures c.new.ensures.items c.new-2.ensures.items
+    starts_at c.homes_settle.ensures c.args.deltas.items c.args.image.now c.args.harts c.args.limits c.args.wanted c.in_ok-flat.flat c.in_ok-homes.homes c.new.result.items c.new-2.result.items c.in_ok-flat.ensures.ok c.in_ok-homes.ensures c.new.ensures.items c.new-2.ensures.items

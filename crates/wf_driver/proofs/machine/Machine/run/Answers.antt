@@ -6,13 +6,14 @@ use Rattle.wf_driver.proofs.MadeLemmas.{made_none, made_push, run_obeyed, run_st
 use Rattle.wf_driver.proofs.machine.Machine.run.Goals as goal
 
 pub loop-init : goal.loop-init
-loop-init c = record { made = made_none IsTurn c.args.self.now; harts = refl; deltas = refl }
+loop-init c = record { made = made_none IsTurn c.args.self.now; harts = refl; deltas = refl; homes = refl }
 
 pub loop-preserved : goal.loop-preserved
 loop-preserved c = record {
   made = made_push c.loop.counter IsTurn c.args.self.now c.loop.self c.make_turn.new.self c.loop.invariant.made c.in_ok-make_turn.ensures.ok;
   harts = c.make_turn.ensures.harts ∙ c.loop.invariant.harts;
   deltas = c.make_turn.ensures.deltas ∙ c.loop.invariant.deltas;
+  homes = c.make_turn.ensures.homes ∙ c.loop.invariant.homes;
 }
 
 pub returns-in_err-make_turn-clause-err : goal.returns-in_err-make_turn-clause-err

@@ -1,4 +1,4 @@
-use Rattle.std.proofs.Common.{◌≡◌, length}
+use Rattle.std.proofs.Common.{◌≡◌, is_some, length}
 use Rattle.wf_follow.specs.Units.{IsTurn, Times}
 use Rattle.wf_driver.specs.Making.{HasMade}
 use Rattle.wf_driver.proofs.machine.Machine.run.Given as goal
@@ -8,4 +8,5 @@ invariant-loop l = record {
   made : HasMade (Times l.counter IsTurn) l.fn.self l.self;
   harts : length l.self.flat.harts ≡ length l.fn.self.flat.harts;
   deltas : l.self.deltas ≡ l.fn.self.deltas;
+  homes : is_some l.self.homes ≡ is_some l.fn.self.homes;
 }

@@ -6,13 +6,14 @@ use Rattle.wf_driver.proofs.MadeLemmas.{made_none, made_push, step_obeyed, step_
 use Rattle.wf_driver.proofs.machine.Machine.step.Goals as goal
 
 pub loop-init : goal.loop-init
-loop-init c = record { made = made_none (IsUnitOf c.args.hart) c.args.self.now; harts = refl; deltas = refl }
+loop-init c = record { made = made_none (IsUnitOf c.args.hart) c.args.self.now; harts = refl; deltas = refl; homes = refl }
 
 pub loop-preserved : goal.loop-preserved
 loop-preserved c = record {
   made = made_push c.loop.counter (IsUnitOf c.args.hart) c.args.self.now c.loop.self c.make_unit.new.self c.loop.invariant.made c.in_ok-make_unit.ensures.ok;
   harts = c.make_unit.ensures.harts ∙ c.loop.invariant.harts;
   deltas = c.make_unit.ensures.deltas ∙ c.loop.invariant.deltas;
+  homes = c.make_unit.ensures.homes ∙ c.loop.invariant.homes;
 }
 
 pub returns-in_err-make_unit-clause-err : goal.returns-in_err-make_unit-clause-err

@@ -1,0 +1,16 @@
+pub mod MapLemmas
+pub mod LowLemmas
+pub mod MissLemmas
+pub mod ReserveLemmas
+pub mod LayoutLemmas
+pub mod PlanLemmas
+pub mod RoomLemmas
+pub mod FreeLemmas
+pub mod AnyLemmas
+pub mod PlaceLemmas
+pub mod TreeLemmas
+pub mod DataLemmas
+pub mod NodeLemmas
+pub mod LaidLemmas
+pub mod NeedLemmas
+pub mod AgreeLemmas
