@@ -27,7 +27,7 @@ use Rattle.wf_flat.specs.Memory.{data_in, has_met, with_met}
 use Rattle.wf_driver.specs.declared.actions.Operand.{Operand}
 use Rattle.wf_driver.specs.declared.actions.Write.{Write}
 use Rattle.wf_driver.specs.declared.actions.Action.{Action}
-use Rattle.wf_driver.specs.Stepping.{IsTryStart, IsAction, IsTrapOf, IsAt, IsInTry, InAccess, IsToDo, IsToMeet, IsPageToSync, IsDone, WillReach, store_want}
+use Rattle.wf_driver.specs.Stepping.{IsTryStart, IsAction, IsTrapOf, IsAt, IsInTry, IsTrying, IsToDo, IsToMeet, IsPageToSync, IsDone, WillReach, store_want}
 use Rattle.wf_driver.proofs.StepLemmas.{no_try_of}
 use Rattle.wf_driver.proofs.AccessLemmas.{no_call, wanted}
 use Rattle.wf_flat.proofs.ListLemmas.{if_some_more, some_and, and_some}
@@ -97,7 +97,7 @@ fetched_ready s new h word arch ready e =
     and_some (slice_get new.harts h) _ (fetched_with word w.0) is (w.2.0.0, refl, refl, w.2.1, refl, refl)
 
 -- a load and a store are in their accesses
-pub in_access : (s : FlatState) (h word : ℕ) (arch : ArchState) (inst : Inst) → OfHart s h (IsInTry arch word) → inst_of word ≡ Some inst → InAccess s h arch inst
+pub in_access : (s : FlatState) (h word : ℕ) (arch : ArchState) (inst : Inst) → OfHart s h (IsInTry arch word) → inst_of word ≡ Some inst → OfHart s h (IsTrying arch inst)
 in_access s h word arch inst ready e =
     let v = some_and (slice_get s.harts h) _ ready in
     let inst_is : inst_in v.0 ≡ Some inst = ap (option_and_then inst_of) v.2.1 ∙ e in

@@ -1,5 +1,5 @@
 -- What the entries of accesses make, where no other hart is in a try.
-use Rattle.std.proofs.Common.{◌≡◌, ◌≢◌, ◌++◌, ℕ, List, [], ◌∷◌, Option, Some, None, Bool, true, false, refl, sym, subst, ap, ◌∙◌, inl, inr, arith}
+use Rattle.std.proofs.Common.{◌≡◌, ◌≢◌, ◌++◌, ℕ, List, [], ◌∷◌, Option, Some, None, Bool, true, false, length, refl, sym, subst, ap, ◌∙◌, inl, inr, arith}
 use Rattle.std.specs.Prelude.{slice_get, option_and_then, unwrap_or, if◌then◌else◌, ◌==◌, ◌||◌, not, is_some, nat_lt}
 use Rattle.std.specs.Option.{option_map}
 use Rattle.std.specs.List.{AllByRecursion}
@@ -27,8 +27,8 @@ use Rattle.wf_legal.specs.Events.{flat_after}
 use Rattle.wf_legal.specs.Legal.{Moment}
 use Rattle.wf_flat.specs.Changes.{looked_with, written_by, swapped_by, missed, taken_by, put_with, change_hart, change_page}
 use Rattle.wf_flat.proofs.HartLemmas.{changed_get}
-use Rattle.wf_driver.specs.Stepping.{IsActing, IsSame, IsDone, IsTrying, InAccess, HasOpenUnit}
-use Rattle.wf_flat.proofs.ListLemmas.{some_and, and_some}
+use Rattle.wf_driver.specs.Stepping.{IsActing, IsSame, IsDone, IsTrying, EndsUnit, HasOpenUnit, StaysOpen}
+use Rattle.wf_flat.proofs.ListLemmas.{some_and, and_some, length_changed}
 use Rattle.wf_driver.proofs.StepLemmas.{entry, left, but_changed, IsOwned, acts_on, open_made}
 use Rattle.wf_driver.proofs.AccessLemmas.{wanted}
 
@@ -155,7 +155,7 @@ pub record Answers (f : HartState → HartState) (arch : ArchState) (inst : Inst
   pub looked : (hart : HartState) → (f hart).looked ≡ Some answer
   pub wrote : (hart : HartState) → IsTrying arch inst hart → has_written (f hart) access ≡ true
 
-pub done : (s new : FlatState) (h answer : ℕ) (held : Option ℕ) (arch next : ArchState) (inst : Inst) (access : Access) (f : HartState → HartState) → InAccess s h arch inst → new.harts ≡ changed_at s.harts h f
+pub done : (s new : FlatState) (h answer : ℕ) (held : Option ℕ) (arch next : ArchState) (inst : Inst) (access : Access) (f : HartState → HartState) → OfHart s h (IsTrying arch inst) → new.harts ≡ changed_at s.harts h f
     → access_of (Some (want_of inst arch)) ≡ Some access → Answers f arch inst access answer → held ≡ held_by new h (Some access) → next ≡ meaning_of inst arch answer → IsDone new h held next
 done s new h answer held arch next inst access f ready harts e a is_held is_next =
     let w = some_and (slice_get s.harts h) _ ready in
@@ -236,5 +236,14 @@ wrote_held s new h page at width value access e changed =
     e ∙ ap (λ (b : Bool). if b then Some (page_of access.va) else None) (sym same)
 
 -- a hart in its access is in it where harts stay
-pub still_in : (s new : FlatState) (h : ℕ) (arch : ArchState) (inst : Inst) → new.harts ≡ s.harts → InAccess s h arch inst → InAccess new h arch inst
+pub still_in : (s new : FlatState) (h : ℕ) (arch : ArchState) (inst : Inst) → new.harts ≡ s.harts → OfHart s h (IsTrying arch inst) → OfHart new h (IsTrying arch inst)
 still_in s new h arch inst e ready = rw e ready
+
+-- a unit that stays open where harts are the same, or one of them changes, and ends from there
+pub ends_behind : (s mid new : FlatState) (h : ℕ) (before now later : List Entry) → StaysOpen h s before mid now → mid.harts ≡ s.harts → EndsUnit h mid now new later → EndsUnit h s before new later
+ends_behind s mid new h before now later stays same ends =
+    record { made = λ m first b. ends.made m first (stays m first b); rests = ends.rests; harts = ends.harts ∙ ap length same }
+
+pub ends_changed : (s mid new : FlatState) (h : ℕ) (f : HartState → HartState) (before now later : List Entry) → StaysOpen h s before mid now → mid.harts ≡ changed_at s.harts h f → EndsUnit h mid now new later → EndsUnit h s before new later
+ends_changed s mid new h f before now later stays changed ends =
+    record { made = λ m first b. ends.made m first (stays m first b); rests = ends.rests; harts = ends.harts ∙ ap length changed ∙ length_changed f s.harts h }

@@ -27,7 +27,7 @@ use Rattle.wf_driver.specs.declared.actions.Operand.{Operand}
 use Rattle.wf_driver.specs.declared.actions.Write.{Write}
 use Rattle.wf_driver.specs.declared.actions.Write.TheVariants.{Put, PutIf, Swap}
 use Rattle.wf_service.specs.Resting.{IsSettled}
-use Rattle.wf_driver.specs.Stepping.{IsTrying, InAccess, IsLoad, IsStore, IsFoundPage, IsPageToSync, IsMeeting, IsToDo, IsNear, WillReach, WillWrite, load_at, store_at, load_want, store_want}
+use Rattle.wf_driver.specs.Stepping.{IsTrying, IsLoad, IsStore, IsFoundPage, IsPageToSync, IsMeeting, IsToDo, IsNear, WillReach, WillWrite, load_at, store_at, load_want, put_by, store_want}
 use Rattle.wf_flat.proofs.ListLemmas.{some_and, and_some}
 use Rattle.wf_driver.proofs.StepLemmas.{both, each}
 use Rattle.wf_flat.proofs.FoundLemmas.{data_number}
@@ -58,18 +58,18 @@ store_access arch operand write store = ap (λ (w : Want). access_of (Some w)) s
     by_write (PutIf value) = refl
     by_write (Swap op value) = refl
 
-wants : (s : FlatState) (h : ℕ) (arch : ArchState) (inst : Inst) (w : Want) (P : Option Want → Type 0) → want_of inst arch ≡ w → InAccess s h arch inst → P (Some w) → OfHart s h (λ hart. P (want_in hart))
+wants : (s : FlatState) (h : ℕ) (arch : ArchState) (inst : Inst) (w : Want) (P : Option Want → Type 0) → want_of inst arch ≡ w → OfHart s h (IsTrying arch inst) → P (Some w) → OfHart s h (λ hart. P (want_in hart))
 wants s h arch inst w P e ready p =
     each (slice_get s.harts h) (IsTrying arch inst) (λ (hart : HartState). P (want_in hart)) (λ hart is t. subst P (sym (wanted arch inst hart t.1 t.2 ∙ ap Some e)) p) ready
 
-pub load_kind : (s : FlatState) (h : ℕ) (arch : ArchState) (operand : Operand) (reserving : Bool) → IsLoad arch operand reserving → InAccess s h arch operand.inst → OfHart s h (λ hart. reserves (want_in hart) ≡ reserving)
+pub load_kind : (s : FlatState) (h : ℕ) (arch : ArchState) (operand : Operand) (reserving : Bool) → IsLoad arch operand reserving → OfHart s h (IsTrying arch operand.inst) → OfHart s h (λ hart. reserves (want_in hart) ≡ reserving)
 load_kind s h arch operand reserving load ready = wants s h arch operand.inst (load_want operand reserving) (λ (w : Option Want). reserves w ≡ reserving) load.0 ready (by_test reserving)
   where
     by_test : (b : Bool) → reserves (Some (load_want operand b)) ≡ b
     by_test true = refl
     by_test false = refl
 
-pub load_kept : (s : FlatState) (h : ℕ) (arch : ArchState) (operand : Operand) (reserving : Bool) → IsLoad arch operand reserving → InAccess s h arch operand.inst → IsKept s h
+pub load_kept : (s : FlatState) (h : ℕ) (arch : ArchState) (operand : Operand) (reserving : Bool) → IsLoad arch operand reserving → OfHart s h (IsTrying arch operand.inst) → IsKept s h
 load_kept s h arch operand reserving load ready =
     each (slice_get s.harts h) (IsTrying arch operand.inst) (λ (hart : HartState). is_lost (want_in hart) hart.reservation ≡ false)
     (λ hart is t. ap (λ (w : Option Want). is_lost w hart.reservation) (wanted arch operand.inst hart t.1 t.2 ∙ ap Some load.0) ∙ by_test hart.reservation reserving) ready
@@ -79,7 +79,7 @@ load_kept s h arch operand reserving load ready =
     by_test o false = refl
 
 -- a write that is not lost
-pub store_kept : (s : FlatState) (h : ℕ) (arch : ArchState) (operand : Operand) (write : Write) → IsStore arch operand write → InAccess s h arch operand.inst → WillReach s h operand write → IsKept s h
+pub store_kept : (s : FlatState) (h : ℕ) (arch : ArchState) (operand : Operand) (write : Write) → IsStore arch operand write → OfHart s h (IsTrying arch operand.inst) → WillReach s h operand write → IsKept s h
 store_kept s h arch operand write store ready reaches =
     each (slice_get s.harts h) (λ (hart : HartState). IsTrying arch operand.inst hart × (is_lost (Some (store_want operand write)) hart.reservation ≡ false)) (λ (hart : HartState). is_lost (want_in hart) hart.reservation ≡ false)
     (λ hart is t. ap (λ (w : Option Want). is_lost w hart.reservation) (wanted arch operand.inst hart t.0.1 t.0.2 ∙ ap Some store.0) ∙ t.1) (both (slice_get s.harts h) _ _ ready reaches)
@@ -121,7 +121,7 @@ not_last true e = absurd (cc)
 not_last false e = refl
 
 -- an access that is barred traps: to no page
-pub missing : (s : FlatState) (h : ℕ) (arch : ArchState) (inst : Inst) (access : Access) → AllByRecursion IsSettled s.pages → InAccess s h arch inst → IsKept s h → access_of (Some (want_of inst arch)) ≡ Some access → IsTextless s h access.va
+pub missing : (s : FlatState) (h : ℕ) (arch : ArchState) (inst : Inst) (access : Access) → AllByRecursion IsSettled s.pages → OfHart s h (IsTrying arch inst) → IsKept s h → access_of (Some (want_of inst arch)) ≡ Some access → IsTextless s h access.va
     → data_in s.pages (page_of access.va) ≡ None → OfHart s h (λ hart. IsToDo s h hart (Exactly (events.Trap (if access.write then 15 else 13) access.va) ∷ []))
 missing s h arch inst access free ready kept e text none =
     each (slice_get s.harts h) (λ (hart : HartState). (IsTrying arch inst hart × (is_lost (want_in hart) hart.reservation ≡ false)) × (page_in (generation_text s hart.generation) (page_of access.va) ≡ None))
@@ -133,7 +133,7 @@ missing s h arch inst access free ready kept e text none =
     )) (both (slice_get s.harts h) _ _ (both (slice_get s.harts h) _ _ ready kept) text)
 
 -- to text, which is not written
-pub in_text : (s : FlatState) (h : ℕ) (arch : ArchState) (inst : Inst) (access : Access) → AllByRecursion IsSettled s.pages → InAccess s h arch inst → IsKept s h → access_of (Some (want_of inst arch)) ≡ Some access
+pub in_text : (s : FlatState) (h : ℕ) (arch : ArchState) (inst : Inst) (access : Access) → AllByRecursion IsSettled s.pages → OfHart s h (IsTrying arch inst) → IsKept s h → access_of (Some (want_of inst arch)) ≡ Some access
     → OfHart s h (λ hart. page_in (generation_text s hart.generation) (page_of access.va) ≢ None) → access.write ≡ true → OfHart s h (λ hart. IsToDo s h hart (Exactly (events.Trap 15 access.va) ∷ []))
 in_text s h arch inst access free ready kept e text writes =
     each (slice_get s.harts h) (λ (hart : HartState). (IsTrying arch inst hart × (is_lost (want_in hart) hart.reservation ≡ false)) × (page_in (generation_text s hart.generation) (page_of access.va) ≢ None))
@@ -150,7 +150,7 @@ and_false true true = refl
 and_false true false = refl
 and_false false b = refl
 
-pub denied : (s : FlatState) (h : ℕ) (arch : ArchState) (inst : Inst) (access : Access) (found : Found) → AllByRecursion IsSettled s.pages → InAccess s h arch inst → IsKept s h → access_of (Some (want_of inst arch)) ≡ Some access → IsTextless s h access.va
+pub denied : (s : FlatState) (h : ℕ) (arch : ArchState) (inst : Inst) (access : Access) (found : Found) → AllByRecursion IsSettled s.pages → OfHart s h (IsTrying arch inst) → IsKept s h → access_of (Some (want_of inst arch)) ≡ Some access → IsTextless s h access.va
     → IsFoundPage s (page_of access.va) found → access.write ≡ true → not found.write ≡ true → OfHart s h (λ hart. IsToDo s h hart (Exactly (events.Trap 15 access.va) ∷ []))
 denied s h arch inst access found free ready kept e text found_is writes denies =
     let d = some_and (data_in s.pages (page_of access.va)) _ found_is in
@@ -171,7 +171,7 @@ todo_sync : (s : FlatState) (hart : HartState) (access : Access) (page : PageSta
 todo_sync s hart access page is here right page_to_sync = rw is (rw (here, right, page_to_sync) refl)
 
 -- a page that was not met is met first
-pub meets : (s : FlatState) (h : ℕ) (arch : ArchState) (inst : Inst) (access : Access) (found : Found) (met : Option (List (ℕ × ℕ))) → AllByRecursion IsSettled s.pages → InAccess s h arch inst → IsKept s h → access_of (Some (want_of inst arch)) ≡ Some access
+pub meets : (s : FlatState) (h : ℕ) (arch : ArchState) (inst : Inst) (access : Access) (found : Found) (met : Option (List (ℕ × ℕ))) → AllByRecursion IsSettled s.pages → OfHart s h (IsTrying arch inst) → IsKept s h → access_of (Some (want_of inst arch)) ≡ Some access
     → IsTextless s h access.va → IsFoundPage s (page_of access.va) found → ((page : PageState) → page.write ≡ found.write → has_right access page ≡ true) → IsPageToSync s h access.va met → IsMeeting s h found.page met
 meets s h arch inst access found None free ready kept e text found_is right page_to_sync =
     let d = some_and (data_in s.pages (page_of access.va)) _ found_is in
@@ -218,7 +218,7 @@ reads_text : (s : FlatState) (h va width value : ℕ) (hart : HartState) (access
 reads_text s h va width value hart access None a w e = absurd (cc)
 reads_text s h va width value hart access (Some page) a w e = rw (a, w) (cc)
 
-pub text_looks : (s : FlatState) (h value : ℕ) (arch : ArchState) (operand : Operand) (reserving : Bool) → IsLoad arch operand reserving → InAccess s h arch operand.inst
+pub text_looks : (s : FlatState) (h value : ℕ) (arch : ArchState) (operand : Operand) (reserving : Bool) → IsLoad arch operand reserving → OfHart s h (IsTrying arch operand.inst)
     → OfHart s h (λ hart. option_map (λ (page : PageValue). number_in page.words (operand.va % 4096) operand.width) (page_in (generation_text s hart.generation) (page_of operand.va)) ≡ Some value)
     → OfHart s h (λ hart. (hart.life ≡ Running) × MayLook s h hart operand.va operand.width value)
 text_looks s h value arch operand reserving load ready read =
@@ -235,7 +235,7 @@ text_looks s h value arch operand reserving load ready read =
     )) (both (slice_get s.harts h) _ _ ready read)
 
 -- below the last count of writes a load looks at once
-pub free_looks : (s : FlatState) (h value : ℕ) (arch : ArchState) (operand : Operand) (reserving : Bool) (found : Found) → AllByRecursion IsSettled s.pages → IsLoad arch operand reserving → InAccess s h arch operand.inst → IsFoundPage s (page_of operand.va) found
+pub free_looks : (s : FlatState) (h value : ℕ) (arch : ArchState) (operand : Operand) (reserving : Bool) (found : Found) → AllByRecursion IsSettled s.pages → IsLoad arch operand reserving → OfHart s h (IsTrying arch operand.inst) → IsFoundPage s (page_of operand.va) found
     → IsNear s h operand.va found.page → found.last ≡ false → IfSome (data_in s.pages (page_of operand.va)) (λ page. value ≡ number_in page.words (operand.va % 4096) operand.width)
     → OfHart s h (λ hart. (hart.life ≡ Running) × MayLook s h hart operand.va operand.width value)
 free_looks s h value arch operand reserving found free load ready found_is near below read =
@@ -255,7 +255,7 @@ free_looks s h value arch operand reserving found free load ready found_is near 
     )) (both (slice_get s.harts h) _ _ ready near))
 
 -- at the last one it takes the page
-pub last_takes : (s : FlatState) (h : ℕ) (arch : ArchState) (operand : Operand) (reserving : Bool) (found : Found) → AllByRecursion IsSettled s.pages → IsLoad arch operand reserving → InAccess s h arch operand.inst → IsFoundPage s (page_of operand.va) found
+pub last_takes : (s : FlatState) (h : ℕ) (arch : ArchState) (operand : Operand) (reserving : Bool) (found : Found) → AllByRecursion IsSettled s.pages → IsLoad arch operand reserving → OfHart s h (IsTrying arch operand.inst) → IsFoundPage s (page_of operand.va) found
     → IsNear s h operand.va found.page → found.last ≡ true → OfHart s h (λ hart. (hart.life ≡ Running) × MayTake s hart (access_in hart) found.page)
 last_takes s h arch operand reserving found free load ready found_is near last =
     let d = some_and (data_in s.pages (page_of operand.va)) _ found_is in
@@ -274,7 +274,7 @@ last_takes s h arch operand reserving found free load ready found_is near last =
     by_test hart page high true = rw high refl
     by_test hart page high false = rw high refl
 
-pub write_takes : (s : FlatState) (h : ℕ) (arch : ArchState) (operand : Operand) (write : Write) (found : Found) → AllByRecursion IsSettled s.pages → IsStore arch operand write → InAccess s h arch operand.inst → IsFoundPage s (page_of operand.va) found
+pub write_takes : (s : FlatState) (h : ℕ) (arch : ArchState) (operand : Operand) (write : Write) (found : Found) → AllByRecursion IsSettled s.pages → IsStore arch operand write → OfHart s h (IsTrying arch operand.inst) → IsFoundPage s (page_of operand.va) found
     → IsNear s h operand.va found.page → found.write ≡ true → WillWrite s h operand write true → OfHart s h (λ hart. (hart.life ≡ Running) × MayTake s hart (access_in hart) found.page)
 write_takes s h arch operand write found free store ready found_is near right will =
     let d = some_and (data_in s.pages (page_of operand.va)) _ found_is in
@@ -310,7 +310,7 @@ taken_held s new h access found is page =
     let t = taken s new h access.va found is page in
     ap Some t.number_is ∙ held_page new h access (taken_by h t.page) t.new_page refl
 
-pub taken_looks : (s new : FlatState) (h value : ℕ) (arch : ArchState) (operand : Operand) (reserving : Bool) (found : Found) → IsLoad arch operand reserving → InAccess s h arch operand.inst → IsFoundPage s (page_of operand.va) found → IsNear s h operand.va found.page
+pub taken_looks : (s new : FlatState) (h value : ℕ) (arch : ArchState) (operand : Operand) (reserving : Bool) (found : Found) → IsLoad arch operand reserving → OfHart s h (IsTrying arch operand.inst) → IsFoundPage s (page_of operand.va) found → IsNear s h operand.va found.page
     → new.harts ≡ s.harts → new.gens ≡ s.gens → data_in new.pages found.page ≡ option_map (taken_by h) (data_in s.pages found.page) → IfSome (data_in s.pages (page_of operand.va)) (λ page. value ≡ number_in page.words (operand.va % 4096) operand.width)
     → OfHart new h (λ hart. (hart.life ≡ Running) × MayLook new h hart operand.va operand.width value)
 taken_looks s new h value arch operand reserving found load ready is near harts gens page read =
@@ -330,7 +330,7 @@ taken_looks s new h value arch operand reserving found load ready is near harts 
     )) (both (slice_get new.harts h) _ _ (still_in s new h arch operand.inst harts ready) text))
 
 -- a page that the hart holds is put to, or swapped
-may_put : (s : FlatState) (h low whole : ℕ) (arch : ArchState) (operand : Operand) (write : Write) → IsStore arch operand write → InAccess s h arch operand.inst → put_of (Some (store_want operand write)) ≡ Some whole → holds s h (store_at operand) ≡ true
+may_put : (s : FlatState) (h low whole : ℕ) (arch : ArchState) (operand : Operand) (write : Write) → IsStore arch operand write → OfHart s h (IsTrying arch operand.inst) → put_of (Some (store_want operand write)) ≡ Some whole → holds s h (store_at operand) ≡ true
     → low ≡ whole % 2 ^ (8 * operand.width) → OfHart s h (λ hart. (hart.life ≡ Running) × MayPut s h hart operand.va operand.width low)
 may_put s h low whole arch operand write store ready puts holding low_is =
     each (slice_get s.harts h) (IsTrying arch operand.inst) (λ (hart : HartState). (hart.life ≡ Running) × MayPut s h hart operand.va operand.width low)
@@ -345,26 +345,27 @@ may_put s h low whole arch operand write store ready puts holding low_is =
       ),
     )) ready
 
-pub put_may : (s : FlatState) (h low page value : ℕ) (arch : ArchState) (operand : Operand) → IsStore arch operand (Put value) → InAccess s h arch operand.inst → Some page ≡ held_by s h (Some (store_at operand)) → low ≡ value % 2 ^ (8 * operand.width)
-    → OfHart s h (λ hart. (hart.life ≡ Running) × MayPut s h hart operand.va operand.width low)
-put_may s h low page value arch operand store ready held low_is = may_put s h low value arch operand (Put value) store ready refl (holds_by s h page (store_at operand) held) low_is
-
-pub put_if_may : (s : FlatState) (h low page value : ℕ) (arch : ArchState) (operand : Operand) → IsStore arch operand (PutIf value) → InAccess s h arch operand.inst → Some page ≡ held_by s h (Some (store_at operand)) → low ≡ value % 2 ^ (8 * operand.width)
-    → OfHart s h (λ hart. (hart.life ≡ Running) × MayPut s h hart operand.va operand.width low)
-put_if_may s h low page value arch operand store ready held low_is = may_put s h low value arch operand (PutIf value) store ready refl (holds_by s h page (store_at operand) held) low_is
+pub put_may : (s : FlatState) (h low page value : ℕ) (conditional : Bool) (arch : ArchState) (operand : Operand) → IsStore arch operand (put_by conditional value) → OfHart s h (IsTrying arch operand.inst) → Some page ≡ held_by s h (Some (store_at operand))
+    → low ≡ value % 2 ^ (8 * operand.width) → OfHart s h (λ hart. (hart.life ≡ Running) × MayPut s h hart operand.va operand.width low)
+put_may s h low page value conditional arch operand store ready held low_is = may_put s h low value arch operand (put_by conditional value) store ready (by_test conditional) (holds_by s h page (store_at operand) held) low_is
+  where
+    by_test : (b : Bool) → put_of (Some (store_want operand (put_by b value))) ≡ Some value
+    by_test true = refl
+    by_test false = refl
 
 -- whether a write is conditional
-pub put_plain : (s : FlatState) (h value : ℕ) (arch : ArchState) (operand : Operand) → IsStore arch operand (Put value) → InAccess s h arch operand.inst → OfHart s h (λ hart. is_conditional (want_in hart) ≡ false)
-put_plain s h value arch operand store ready = wants s h arch operand.inst (store_want operand (Put value)) (λ (w : Option Want). is_conditional w ≡ false) store.0 ready refl
-
-pub put_conditional : (s : FlatState) (h value : ℕ) (arch : ArchState) (operand : Operand) → IsStore arch operand (PutIf value) → InAccess s h arch operand.inst → OfHart s h (λ hart. is_conditional (want_in hart) ≡ true)
-put_conditional s h value arch operand store ready = wants s h arch operand.inst (store_want operand (PutIf value)) (λ (w : Option Want). is_conditional w ≡ true) store.0 ready refl
+pub put_kind : (s : FlatState) (h value : ℕ) (conditional : Bool) (arch : ArchState) (operand : Operand) → IsStore arch operand (put_by conditional value) → OfHart s h (IsTrying arch operand.inst) → OfHart s h (λ hart. is_conditional (want_in hart) ≡ conditional)
+put_kind s h value conditional arch operand store ready = wants s h arch operand.inst (store_want operand (put_by conditional value)) (λ (w : Option Want). is_conditional w ≡ conditional) store.0 ready (by_test conditional)
+  where
+    by_test : (b : Bool) → is_conditional (Some (store_want operand (put_by b value))) ≡ b
+    by_test true = refl
+    by_test false = refl
 
 there_held : (o : Option PageState) (h : ℕ) (P : PageState → Type 0) → holds_page h o ≡ true → IfSome o P → IsSomeAnd o P
 there_held None h P e p = absurd (cc)
 there_held (Some page) h P e p = p
 
-pub swap_may : (s : FlatState) (h page value old new : ℕ) (op : AmoOp) (arch : ArchState) (operand : Operand) → IsStore arch operand (Swap op value) → InAccess s h arch operand.inst → Some page ≡ held_by s h (Some (store_at operand))
+pub swap_may : (s : FlatState) (h page value old new : ℕ) (op : AmoOp) (arch : ArchState) (operand : Operand) → IsStore arch operand (Swap op value) → OfHart s h (IsTrying arch operand.inst) → Some page ≡ held_by s h (Some (store_at operand))
     → IfSome (data_in s.pages (page_of operand.va)) (λ page. old ≡ number_in page.words (operand.va % 4096) operand.width) → new ≡ amo_of op (operand.width == 8) old value
     → OfHart s h (λ hart. (hart.life ≡ Running) × MaySwap s h hart operand.va operand.width old new)
 swap_may s h page value old new op arch operand store ready held read made =
@@ -400,7 +401,7 @@ lost_is_conditional s h arch operand write lost store is e =
     let w = some_and (slice_get s.harts h) _ is in
     ap (λ (w : Want). is_conditional (Some w)) store.0 ∙ lost_conditional operand write w.0.reservation (sym w.2 ∙ e)
 
-pub lost_misses : (s : FlatState) (h : ℕ) (arch : ArchState) (operand : Operand) (write : Write) (lost : Bool) → AllByRecursion IsSettled s.pages → IsStore arch operand write → InAccess s h arch operand.inst
+pub lost_misses : (s : FlatState) (h : ℕ) (arch : ArchState) (operand : Operand) (write : Write) (lost : Bool) → AllByRecursion IsSettled s.pages → IsStore arch operand write → OfHart s h (IsTrying arch operand.inst)
     → OfHart s h (λ hart. lost ≡ is_lost (Some (store_want operand write)) hart.reservation) → lost ≡ true → OfHart s h (λ hart. (hart.life ≡ Running) × MayMiss s h hart (access_in hart) operand.va)
 lost_misses s h arch operand write lost free store ready is e =
     each (slice_get s.harts h) (λ (hart : HartState). IsTrying arch operand.inst hart × (lost ≡ is_lost (Some (store_want operand write)) hart.reservation)) (λ (hart : HartState). (hart.life ≡ Running) × MayMiss s h hart (access_in hart) operand.va)
@@ -426,7 +427,7 @@ or_true : (a b : Bool) → b ≡ true → (a || b) ≡ true
 or_true true b e = refl
 or_true false b e = e
 
-pub idle_misses : (s : FlatState) (h : ℕ) (arch : ArchState) (operand : Operand) (write : Write) (found : Found) → AllByRecursion IsSettled s.pages → IsStore arch operand write → InAccess s h arch operand.inst → IsFoundPage s (page_of operand.va) found
+pub idle_misses : (s : FlatState) (h : ℕ) (arch : ArchState) (operand : Operand) (write : Write) (found : Found) → AllByRecursion IsSettled s.pages → IsStore arch operand write → OfHart s h (IsTrying arch operand.inst) → IsFoundPage s (page_of operand.va) found
     → IsNear s h operand.va found.page → found.write ≡ true → WillWrite s h operand write false → OfHart s h (λ hart. (hart.life ≡ Running) × MayMiss s h hart (access_in hart) operand.va)
 idle_misses s h arch operand write found free store ready found_is near right will =
     let d = some_and (data_in s.pages (page_of operand.va)) _ found_is in

@@ -66,16 +66,16 @@ abbrev pub AreHomesIn : Option Homes → Homes → Type 0
 AreHomesIn None homes = Unit {0}
 AreHomesIn (Some own) homes = own ≡ homes
 
--- from a place of a machine with these homes something leads to one of a new machine, with the homes
--- then, if it has some
+-- from a place of a machine with these homes something leads to one of a new machine, with the
+-- homes then, if it has some
 pub record IsLed (Leads : Place → Place → Type 0) (old new : MachineValue) (homes : Homes)
     : Type 0 where
   pub after : Homes
   pub own : AreHomesIn new.homes after
   pub leads : Leads (place_of old homes) (place_of new after)
 
--- so it does whatever the homes are, if they are those of the old machine, if it has some; and it has
--- some where the new one has
+-- so it does whatever the homes are, if they are those of the old machine, if it has some; and it
+-- has some where the new one has
 pub record LeadsOn (Leads : Place → Place → Type 0) (old new : MachineValue) : Type 0 where
   pub each : (homes : Homes) → AreHomesIn old.homes homes → IsLed Leads old new homes
   pub kept : is_some new.homes ≡ is_some old.homes

@@ -1,5 +1,5 @@
 -- What the machine keeps around a unit of a hart, and how far a unit has come.
-use Rattle.std.specs.Prelude.{◌≡◌, ◌≢◌, ◌⊎◌, ℕ, List, [], ◌∷◌, Bool, true, false, not, if◌then◌else◌, Option, Some, None, IfSome, IsSomeAnd, map, nat_lt}
+use Rattle.std.specs.Prelude.{◌≡◌, ◌≢◌, ◌⊎◌, ℕ, List, [], ◌∷◌, Bool, true, false, not, if◌then◌else◌, Option, Some, None, IfSome, IsSomeAnd, length, map, nat_lt}
 use Rattle.std.specs.List.{AllByRecursion}
 use Rattle.rv_inst.specs.declared.causes.TheConstants.{ILLEGAL_INSTRUCTION}
 use Rattle.rv_inst.specs.declared.inst.Inst.{Inst}
@@ -19,6 +19,7 @@ use Rattle.wf_flat.specs.Memory.{page_in, data_in, word_at, has_met, with_met, m
 use Rattle.wf_flat.specs.Ordered.{IsOrdered}
 use Rattle.wf_flat.specs.Serving.{held_by, IsAlone, IsPlace}
 use Rattle.wf_flat.specs.Accesses.{Access}
+use Rattle.wf_flat.specs.Follows.{IsUnit}
 use Rattle.wf_flat.specs.Steps.{Called, OfHart, ask_of, generation_text, inst_in, want_in, access_in, is_lost, takes_for, is_done, arch_after}
 use Rattle.wf_flat.specs.declared.event.Event.TheVariants.{Sync}
 use Rattle.wf_verdict.specs.declared.work.Todo.{Todo}
@@ -28,9 +29,11 @@ use Rattle.wf_flat.specs.declared.event.Entry.{Entry}
 use Rattle.wf_flat.specs.State.{FlatState, HartState}
 use Rattle.wf_legal.specs.Legal.{Moment, at_rest}
 use Rattle.wf_service.specs.Adding.{Adds, IsOpen}
+use Rattle.wf_service.specs.Resting.{IsResting}
 use Rattle.wf_driver.specs.declared.finding.Found.{Found}
 use Rattle.wf_driver.specs.declared.stepping.Start.{Start}
 use Rattle.wf_driver.specs.declared.stepping.Start.TheVariants.{Stopped, Word, Fault}
+use Rattle.wf_driver.specs.declared.actions.AccessTry.{AccessTry}
 use Rattle.wf_driver.specs.declared.actions.Operand.{Operand}
 use Rattle.wf_driver.specs.declared.actions.Write.{Write}
 use Rattle.wf_driver.specs.declared.actions.Write.TheVariants.{Put, PutIf, Swap}
@@ -63,6 +66,10 @@ store_want operand (Put value) = want.Put operand.va operand.width value
 store_want operand (PutIf value) = want.PutIf operand.va operand.width value
 store_want operand (Swap op value) = want.Swap operand.va operand.width op value
 
+-- the write of a value by a store-conditional, or by a store
+abbrev pub put_by : Bool → ℕ → Write
+put_by conditional value = if conditional then PutIf value else Put value
+
 -- the access of an operand that is read
 abbrev pub load_at : Operand → Access
 load_at operand = record { va = operand.va; width = operand.width; write = false }
@@ -77,9 +84,13 @@ IsTrying arch inst hart =
     (hart.life ≡ Running) × (inst_in hart ≡ Some inst) × (hart.arch ≡ arch) × (hart.looked ≡ None)
     × (hart.put ≡ false) × (hart.moved ≡ [])
 
--- the hart of a number does so
-abbrev pub InAccess : FlatState → ℕ → ArchState → Inst → Type 0
-InAccess s h arch inst = OfHart s h (IsTrying arch inst)
+-- the hart of an access does so
+abbrev pub InAccess : FlatState → AccessTry → Type 0
+InAccess s access = OfHart s access.hart (IsTrying access.arch access.operand.inst)
+
+-- what the instruction of an access wants
+abbrev pub wanted_by : AccessTry → Want
+wanted_by access = want_of access.operand.inst access.arch
 
 -- a hart that runs is in a try of an instruction that is done, holds this page, if any, and leaves
 -- these registers
@@ -214,6 +225,12 @@ IsAction arch word (Store operand write) =
     (inst_of word ≡ Some operand.inst) × IsStore arch operand write
 IsAction arch word (Trap cause value) = IsTrapOf arch word (inst_of word) cause value
 
+-- a hart that runs is in a try of a word, has done nothing in it, and is to do this with it
+pub record IsToCarryOut (s : FlatState) (h : ℕ) (arch : ArchState) (action : Action) : Type 0 where
+  pub word : ℕ
+  pub tries : OfHart s h (IsInTry arch word)
+  pub action_is : IsAction arch word action
+
 -- A unit of a hart is open behind the entries so far, from this moment, and has come to this state.
 -- What it made is legal.
 abbrev pub HasOpenUnit : Moment → List Entry → FlatState → List Entry → ℕ → Type 0
@@ -223,3 +240,18 @@ HasOpenUnit m before new now h = Adds m before (at_rest m.deltas new) now (IsOpe
 abbrev pub Continues : Moment → List Entry → FlatState → List Entry → (List Entry → Type 0)
     → Type 0
 Continues m before new now P = Adds m before (at_rest m.deltas new) now P
+
+-- where a unit of the hart was open behind these entries, it is open still behind those
+abbrev pub StaysOpen : ℕ → FlatState → List Entry → FlatState → List Entry → Type 0
+StaysOpen h old before new now =
+    (m : Moment) (first : List Entry) → HasOpenUnit m first old before h
+    → HasOpenUnit m first new now h
+
+-- Where a unit of the hart was open behind these entries, it has ended behind those. The machine is
+-- at rest, with as many harts.
+pub record EndsUnit (h : ℕ) (old : FlatState) (before : List Entry) (new : FlatState)
+    (now : List Entry) : Type 0 where
+  pub made : (m : Moment) (first : List Entry) → HasOpenUnit m first old before h
+      → Continues m first new now (IsUnit h)
+  pub rests : IsResting new
+  pub harts : length new.harts ≡ length old.harts

@@ -22,6 +22,17 @@ pub struct Operand {
     pub width: u8,
 }
 
+/// A hart in a try of an instruction that reads or writes.
+#[derive(Clone, Copy, Debug, PartialEq, Eq)]
+pub struct AccessTry {
+    /// The hart.
+    pub hart: u8,
+    /// Its registers.
+    pub arch: Arch,
+    /// What the instruction reads or writes.
+    pub operand: Operand,
+}
+
 /// How an instruction writes.
 #[derive(Clone, Copy, Debug, PartialEq, Eq)]
 pub enum Write {

@@ -8,8 +8,8 @@ use wf_flat::{Entry, Flat};
 use wf_outside::Memory;
 use wf_tables::{Homes, change_tenants};
 
-// Homes that account for some of the entries come to account for all. It takes a pass over the other
-// entries, and one over all that lies in frames where one of them changes that.
+// Homes that account for some of the entries come to account for all. It takes a pass over the
+// other entries, and one over all that lies in frames where one of them changes that.
 fn account_homes(
     alloc: Global,
     homes: &mut Homes,
@@ -19,7 +19,8 @@ fn account_homes(
 ) -> Result<(), Memory>
     requires of { AreHomesOf homes.old accounted.old entries.now flat.now }
     requires ordered { IsOrdered flat.now }
-    ensures homes { OnOk result (homes.new ≡ homes_now homes.old accounted.old entries.now flat.now) }
+    ensures homes { OnOk result
+        (homes.new ≡ homes_now homes.old accounted.old entries.now flat.now) }
     ensures all { OnOk result (accounted.new ≡ length entries.now) }
     ensures err { OnErr result ((homes.new ≡ homes.old) × (accounted.new ≡ accounted.old)) }
 {
@@ -47,7 +48,8 @@ pub fn account(
 ) -> Result<(), Memory>
     requires of { AreOwnHomesOf homes.old accounted.old entries.now flat.now }
     requires ordered { IsOrdered flat.now }
-    ensures homes { OnOk result (homes.new ≡ own_homes homes.old accounted.old entries.now flat.now) }
+    ensures homes { OnOk result
+        (homes.new ≡ own_homes homes.old accounted.old entries.now flat.now) }
     ensures all { OnOk result (accounted.new ≡ length entries.now) }
     ensures err { OnErr result ((homes.new ≡ homes.old) × (accounted.new ≡ accounted.old)) }
 {

@@ -1,22 +1,18 @@
 //! Loads, entry by entry, where no other hart is in a try.
-ghost use Rattle.std.specs.Prelude.{◌≡◌, ◌<◌, ◌+◌, [], List, None, Some, length, vec_len, vec_capacity};
+ghost use Rattle.std.specs.Prelude.{◌≡◌, ◌<◌, ◌+◌, [], None, Some, vec_len, vec_capacity};
 ghost use Rattle.std.specs.Option.{option_map};
 ghost use Rattle.wf_flat.specs.declared.event.Actor.TheVariants.{Hart};
 ghost use Rattle.wf_flat.specs.declared.event.Event.TheVariants as events;
-ghost use Rattle.wf_flat.specs.declared.event.Entry.{Entry as FlatEntry};
 ghost use Rattle.wf_flat.specs.declared.state.Life.TheVariants.{Running};
-ghost use Rattle.wf_legal.specs.Legal.{Moment};
 ghost use Rattle.wf_outside.specs.Pages.{page_of};
 ghost use Rattle.wf_flat.specs.Serving.{held_by};
 ghost use Rattle.wf_flat.specs.Ordered.{IsOrdered};
 ghost use Rattle.wf_flat.specs.Steps.{OfHart, MayLook, want_in};
 ghost use Rattle.wf_legal.specs.Events.{flat_after};
 ghost use Rattle.wf_flat.specs.Changes.{reserves};
-ghost use Rattle.wf_flat.specs.Follows.{IsUnit};
-ghost use Rattle.wf_service.specs.Resting.{IsResting};
-ghost use Rattle.wf_driver.specs.Stepping.{IsActing, InAccess, IsLoad, IsFoundPage, IsNear, IsPageToSync, HasOpenUnit, Continues, load_at};
+ghost use Rattle.wf_driver.specs.Stepping.{IsActing, InAccess, IsLoad, IsFoundPage, IsNear, IsPageToSync, EndsUnit, load_at};
 
-use crate::actions::{Operand, finished};
+use crate::actions::{AccessTry, Operand, finished};
 use crate::finding::{Found, data_value, found_at, text_value};
 use crate::meeting::{meet, take};
 use crate::stepping::{end, trap};
@@ -43,44 +39,35 @@ fn look(flat: &mut Flat, hart: u8, operand: Operand, reserving: bool, value: u64
 fn read(
     flat: &mut Flat,
     journal: &mut Vec<Entry>,
-    hart: u8,
-    arch: &Arch,
-    operand: Operand,
+    access: &AccessTry,
     reserving: bool,
     value: u64,
     held: Option<u32>,
 )
     requires room { vec_len journal.old + 1 < vec_capacity journal.old }
-    requires acts { IsActing flat.old hart held }
-    requires load { IsLoad arch.now operand reserving }
-    requires ready { InAccess flat.old hart arch.now operand.inst }
-    requires may { OfHart flat.old hart
+    requires acts { IsActing flat.old access.now.hart held }
+    requires load { IsLoad access.now.arch access.now.operand reserving }
+    requires ready { InAccess flat.old access.now }
+    requires may { OfHart flat.old access.now.hart
         (λ state. (state.life ≡ Running)
-        × MayLook flat.old hart state operand.va operand.width value) }
-    requires held { held ≡ held_by flat.old hart (Some (load_at operand)) }
-    ensures made { (m : Moment) (before : List FlatEntry)
-        → HasOpenUnit m before flat.old journal.old.items hart
-        → Continues m before flat.new journal.new.items (IsUnit hart) }
-    ensures rests { IsResting flat.new }
-    ensures harts { length flat.new.harts ≡ length flat.old.harts }
+        × MayLook flat.old access.now.hart state access.now.operand.va access.now.operand.width
+        value) }
+    requires held { held ≡ held_by flat.old access.now.hart (Some (load_at access.now.operand)) }
+    ensures { EndsUnit access.now.hart flat.old journal.old.items flat.new journal.new.items }
 {
-    look(flat, hart, operand, reserving, value);
+    let operand = access.operand;
+    look(flat, access.hart, operand, reserving, value);
     append(
         journal,
-        Actor::Hart(hart),
+        Actor::Hart(access.hart),
         Event::Look {
             va: operand.va,
             width: operand.width,
             value,
         },
     );
-    end(
-        flat,
-        journal,
-        hart,
-        held,
-        finished(arch, operand.inst, value),
-    );
+    let next = finished(&access.arch, operand.inst, value);
+    end(flat, journal, access.hart, held, next);
 }
 
 // Bytes of a page of data that the hart's generation has met are looked at, and the try ends. At
@@ -88,39 +75,24 @@ fn read(
 fn read_page(
     flat: &mut Flat,
     journal: &mut Vec<Entry>,
-    hart: u8,
-    arch: &Arch,
-    operand: Operand,
+    access: &AccessTry,
     reserving: bool,
     found: Found,
 )
     requires room { vec_len journal.old + 2 < vec_capacity journal.old }
-    requires acts { IsActing flat.old hart None }
-    requires load { IsLoad arch.now operand reserving }
-    requires ready { InAccess flat.old hart arch.now operand.inst }
-    requires found { IsFoundPage flat.old (page_of operand.va) found }
-    requires near { IsNear flat.old hart operand.va found.page }
-    ensures made { (m : Moment) (before : List FlatEntry)
-        → HasOpenUnit m before flat.old journal.old.items hart
-        → Continues m before flat.new journal.new.items (IsUnit hart) }
-    ensures rests { IsResting flat.new }
-    ensures harts { length flat.new.harts ≡ length flat.old.harts }
+    requires acts { IsActing flat.old access.now.hart None }
+    requires load { IsLoad access.now.arch access.now.operand reserving }
+    requires ready { InAccess flat.old access.now }
+    requires found { IsFoundPage flat.old (page_of access.now.operand.va) found }
+    requires near { IsNear flat.old access.now.hart access.now.operand.va found.page }
+    ensures { EndsUnit access.now.hart flat.old journal.old.items flat.new journal.new.items }
 {
-    let value = data_value(flat, operand.va, operand.width);
+    let value = data_value(flat, access.operand.va, access.operand.width);
     if found.last {
-        take(flat, journal, hart, found.page);
-        read(
-            flat,
-            journal,
-            hart,
-            arch,
-            operand,
-            reserving,
-            value,
-            Some(found.page),
-        );
+        take(flat, journal, access.hart, found.page);
+        read(flat, journal, access, reserving, value, Some(found.page));
     } else {
-        read(flat, journal, hart, arch, operand, reserving, value, None);
+        read(flat, journal, access, reserving, value, None);
     }
 }
 
@@ -129,25 +101,22 @@ fn read_page(
 pub fn load(
     flat: &mut Flat,
     journal: &mut Vec<Entry>,
-    hart: u8,
-    arch: &Arch,
-    operand: Operand,
+    access: &AccessTry,
     reserving: bool,
     met: Option<Vec<(u32, u32)>>,
 )
     requires room { vec_len journal.old + 4 < vec_capacity journal.old }
-    requires acts { IsActing flat.old hart None }
-    requires load { IsLoad arch.now operand reserving }
-    requires ready { InAccess flat.old hart arch.now operand.inst }
-    requires met { IsPageToSync flat.old hart operand.va (option_map (λ v. v.items) met) }
-    ensures made { (m : Moment) (before : List FlatEntry)
-        → HasOpenUnit m before flat.old journal.old.items hart
-        → Continues m before flat.new journal.new.items (IsUnit hart) }
-    ensures rests { IsResting flat.new }
-    ensures harts { length flat.new.harts ≡ length flat.old.harts }
+    requires acts { IsActing flat.old access.now.hart None }
+    requires load { IsLoad access.now.arch access.now.operand reserving }
+    requires ready { InAccess flat.old access.now }
+    requires met { IsPageToSync flat.old access.now.hart access.now.operand.va
+        (option_map (λ v. v.items) met) }
+    ensures { EndsUnit access.now.hart flat.old journal.old.items flat.new journal.new.items }
 {
+    let hart = access.hart;
+    let operand = access.operand;
     if let Some(value) = text_value(flat, hart, operand.va, operand.width) {
-        read(flat, journal, hart, arch, operand, reserving, value, None);
+        read(flat, journal, access, reserving, value, None);
         return;
     }
     let Some(found) = found_at(flat, hart, operand.va) else {
@@ -155,5 +124,5 @@ pub fn load(
         return;
     };
     meet(flat, journal, hart, found.page, met);
-    read_page(flat, journal, hart, arch, operand, reserving, found);
+    read_page(flat, journal, access, reserving, found);
 }

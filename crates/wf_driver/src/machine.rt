@@ -89,9 +89,8 @@ fn homes_if(alloc: Global, flat: &Flat, wanted: bool) -> Result<Option<Homes>, M
 }
 
 /// A machine that runs a script: the patches of the run; the state of the flat machine, which is at
-/// rest; where everything lay behind the first `accounted` entries, if its script lists page tables;
-/// the journal so far; the listings
-/// at their places; and the hart that `run` stepped last.
+/// rest; where everything lay behind the first `accounted` entries, if its script lists page
+/// tables; the journal so far; the listings at their places; and the hart that `run` stepped last.
 #[derive(Drop)]
 pub struct Machine {
     deltas: Vec<Delta>,

@@ -1,16 +1,14 @@
 //! A page of data is met, and is taken.
-ghost use Rattle.std.specs.Prelude.{◌≡◌, ◌<◌, ◌≤◌, ◌+◌, ◌∷◌, [], List, None, Some, length, map, vec_len, vec_capacity, true};
+ghost use Rattle.std.specs.Prelude.{◌≡◌, ◌<◌, ◌≤◌, ◌+◌, ◌∷◌, [], None, Some, length, map, vec_len, vec_capacity, true};
 ghost use Rattle.std.specs.Option.{option_map};
 ghost use Rattle.wf_flat.specs.declared.event.Event.TheVariants as events;
-ghost use Rattle.wf_flat.specs.declared.event.Entry.{Entry as FlatEntry};
 ghost use Rattle.wf_flat.specs.declared.state.Life.TheVariants.{Running};
-ghost use Rattle.wf_legal.specs.Legal.{Moment};
 ghost use Rattle.wf_outside.specs.Lists.{IsRising};
 ghost use Rattle.wf_flat.specs.Memory.{data_in, has_met, with_met, met_key};
 ghost use Rattle.wf_flat.specs.Steps.{OfHart, MayTake, access_in};
 ghost use Rattle.wf_flat.specs.Changes.{taken_by};
 ghost use Rattle.wf_verdict.specs.declared.work.Todo.TheVariants.{Exactly};
-ghost use Rattle.wf_driver.specs.Stepping.{IsActing, IsToDo, IsMeeting, IsSame, HasOpenUnit};
+ghost use Rattle.wf_driver.specs.Stepping.{IsActing, IsToDo, IsMeeting, IsSame, StaysOpen};
 
 use crate::finding::generation_of;
 use wf_flat::{Actor, Entry, Event, Flat};
@@ -32,9 +30,7 @@ fn sync(
     requires rising { IsRising (map met_key met.items) }
     requires ready { OfHart flat.old hart
         (λ state. IsToDo flat.old hart state (Exactly (events.Sync generation page) ∷ [])) }
-    ensures made { (m : Moment) (before : List FlatEntry)
-        → HasOpenUnit m before flat.old journal.old.items hart
-        → HasOpenUnit m before flat.new journal.new.items hart }
+    ensures made { StaysOpen hart flat.old journal.old.items flat.new journal.new.items }
     ensures acts { IsActing flat.new hart None }
     ensures same { IsSame flat.old flat.new }
     ensures met { flat.new.met ≡ with_met flat.old.met generation page }
@@ -59,9 +55,7 @@ pub fn meet(
     requires there { hart < length flat.old.harts }
     requires acts { IsActing flat.old hart None }
     requires met { IsMeeting flat.old hart page (option_map (λ v. v.items) met) }
-    ensures made { (m : Moment) (before : List FlatEntry)
-        → HasOpenUnit m before flat.old journal.old.items hart
-        → HasOpenUnit m before flat.new journal.new.items hart }
+    ensures made { StaysOpen hart flat.old journal.old.items flat.new journal.new.items }
     ensures acts { IsActing flat.new hart None }
     ensures same { IsSame flat.old flat.new }
     ensures met { OfHart flat.new hart
@@ -82,9 +76,7 @@ pub fn take(flat: &mut Flat, journal: &mut Vec<Entry>, hart: u8, page: u32)
     requires acts { IsActing flat.old hart None }
     requires may { OfHart flat.old hart
         (λ state. (state.life ≡ Running) × MayTake flat.old state (access_in state) page) }
-    ensures made { (m : Moment) (before : List FlatEntry)
-        → HasOpenUnit m before flat.old journal.old.items hart
-        → HasOpenUnit m before flat.new journal.new.items hart }
+    ensures made { StaysOpen hart flat.old journal.old.items flat.new journal.new.items }
     ensures acts { IsActing flat.new hart (Some page) }
     ensures harts { flat.new.harts ≡ flat.old.harts }
     ensures gens { flat.new.gens ≡ flat.old.gens }

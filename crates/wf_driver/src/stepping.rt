@@ -4,19 +4,18 @@ ghost use Rattle.std.specs.Option.{option_map};
 ghost use Rattle.wf_outside.specs.declared.sizes.TheConstants.{MOST_FRAMES};
 ghost use Rattle.wf_outside.specs.Images.{DeltaValue};
 ghost use Rattle.wf_flat.specs.declared.event.Event.TheVariants as events;
-ghost use Rattle.wf_flat.specs.declared.event.Entry.{Entry as FlatEntry};
 ghost use Rattle.wf_flat.specs.declared.state.Life.TheVariants.{Running};
 ghost use Rattle.wf_flat.specs.Steps.{OfHart};
 ghost use Rattle.wf_flat.specs.Changes.{fetched_with};
 ghost use Rattle.wf_verdict.specs.declared.work.Todo.TheVariants.{Exactly};
 ghost use Rattle.wf_flat.specs.Ordered.{IsOrdered};
 ghost use Rattle.wf_flat.specs.Follows.{IsUnit};
-ghost use Rattle.wf_legal.specs.Legal.{Moment, at_rest};
+ghost use Rattle.wf_legal.specs.Legal.{at_rest};
 ghost use Rattle.wf_sound.specs.Sound.{IsSound};
 ghost use Rattle.wf_service.specs.Resting.{IsResting};
-ghost use Rattle.wf_driver.specs.Stepping.{IsTryStart, IsActing, IsAt, IsInTry, IsToDo, IsToMeet, IsDone, IsAction, HasOpenUnit, Continues};
+ghost use Rattle.wf_driver.specs.Stepping.{IsTryStart, IsActing, IsAt, IsToCarryOut, IsToDo, IsToMeet, IsDone, IsAction, StaysOpen, EndsUnit, Continues};
 
-use crate::actions::{Action, action_of};
+use crate::actions::{AccessTry, Action, action_of};
 use crate::finding::page_to_sync;
 use crate::loading::load;
 use crate::storing::{page_to_sync_by, store};
@@ -35,9 +34,7 @@ fn fetch(flat: &mut Flat, journal: &mut Vec<Entry>, hart: u8, pc: u64, word: u32
     requires room { vec_len journal.old < vec_capacity journal.old }
     requires acts { IsActing flat.old hart None }
     requires ready { OfHart flat.old hart (λ state. IsAt flat.old state pc word) }
-    ensures made { (m : Moment) (before : List FlatEntry)
-        → HasOpenUnit m before flat.old journal.old.items hart
-        → HasOpenUnit m before flat.new journal.new.items hart }
+    ensures made { StaysOpen hart flat.old journal.old.items flat.new journal.new.items }
     ensures acts { IsActing flat.new hart None }
     ensures hart { slice_get flat.new.harts hart
         ≡ option_map (fetched_with word) (slice_get flat.old.harts hart) }
@@ -57,11 +54,7 @@ pub fn end(flat: &mut Flat, journal: &mut Vec<Entry>, hart: u8, held: Option<u32
     requires room { vec_len journal.old < vec_capacity journal.old }
     requires acts { IsActing flat.old hart held }
     requires done { IsDone flat.old hart held next }
-    ensures made { (m : Moment) (before : List FlatEntry)
-        → HasOpenUnit m before flat.old journal.old.items hart
-        → Continues m before flat.new journal.new.items (IsUnit hart) }
-    ensures rests { IsResting flat.new }
-    ensures harts { length flat.new.harts ≡ length flat.old.harts }
+    ensures { EndsUnit hart flat.old journal.old.items flat.new journal.new.items }
 {
     flat.end(hart, held, next);
     append(journal, Actor::Hart(hart), Event::End { pc: next.pc });
@@ -73,11 +66,7 @@ pub fn trap(flat: &mut Flat, journal: &mut Vec<Entry>, hart: u8, cause: u8, valu
     requires acts { IsActing flat.old hart None }
     requires ready { OfHart flat.old hart
         (λ state. IsToDo flat.old hart state (Exactly (events.Trap cause value) ∷ [])) }
-    ensures made { (m : Moment) (before : List FlatEntry)
-        → HasOpenUnit m before flat.old journal.old.items hart
-        → Continues m before flat.new journal.new.items (IsUnit hart) }
-    ensures rests { IsResting flat.new }
-    ensures harts { length flat.new.harts ≡ length flat.old.harts }
+    ensures { EndsUnit hart flat.old journal.old.items flat.new journal.new.items }
 {
     flat.enter(Actor::Hart(hart));
     flat.trap(hart, cause, value);
@@ -85,33 +74,40 @@ pub fn trap(flat: &mut Flat, journal: &mut Vec<Entry>, hart: u8, cause: u8, valu
     append(journal, Actor::Hart(hart), Event::Trap { cause, value });
 }
 
-// A hart in a try of a word does what it is to do.
+// A hart in a try does what it is to do.
 fn carry_out(
     flat: &mut Flat,
     journal: &mut Vec<Entry>,
     hart: u8,
     arch: &Arch,
-    word: u32,
     action: Action,
     met: Option<Vec<(u32, u32)>>,
 )
     requires room { vec_len journal.old + 4 < vec_capacity journal.old }
     requires acts { IsActing flat.old hart None }
-    requires ready { OfHart flat.old hart (IsInTry arch.now word) }
-    requires action { IsAction arch.now word action }
+    requires ready { IsToCarryOut flat.old hart arch.now action }
     requires met { IsToMeet flat.old hart action (option_map (λ v. v.items) met) }
-    ensures made { (m : Moment) (before : List FlatEntry)
-        → HasOpenUnit m before flat.old journal.old.items hart
-        → Continues m before flat.new journal.new.items (IsUnit hart) }
-    ensures rests { IsResting flat.new }
-    ensures harts { length flat.new.harts ≡ length flat.old.harts }
+    ensures { EndsUnit hart flat.old journal.old.items flat.new journal.new.items }
 {
+    let arch = *arch;
     match action {
         Action::Run { next } => end(flat, journal, hart, None, next),
-        Action::Load { operand, reserving } => load(
-            flat, journal, hart, arch, operand, reserving, met,
-        ),
-        Action::Store { operand, write } => store(flat, journal, hart, arch, operand, write, met),
+        Action::Load { operand, reserving } => {
+            let access = AccessTry {
+                hart,
+                arch,
+                operand,
+            };
+            load(flat, journal, &access, reserving, met);
+        }
+        Action::Store { operand, write } => {
+            let access = AccessTry {
+                hart,
+                arch,
+                operand,
+            };
+            store(flat, journal, &access, write, met);
+        }
         Action::Trap { cause, value } => trap(flat, journal, hart, cause, value),
     }
 }
@@ -154,7 +150,7 @@ fn try_word(
 {
     let met = to_meet(flat, hart, &action)?;
     fetch(flat, journal, hart, arch.pc, word);
-    carry_out(flat, journal, hart, arch, word, action, met);
+    carry_out(flat, journal, hart, arch, action, met);
     Ok(())
 }
 

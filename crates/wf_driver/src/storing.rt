@@ -1,22 +1,20 @@
 //! Stores and atomic operations, entry by entry, where no other hart is in a try.
-ghost use Rattle.std.specs.Prelude.{◌≡◌, ◌<◌, ◌+◌, ◌%◌, ◌^◌, ◌*◌, List, None, Some, IfOk, length, vec_len, vec_capacity, false, true};
+ghost use Rattle.std.specs.Prelude.{◌≡◌, ◌<◌, ◌+◌, ◌%◌, ◌^◌, ◌*◌, None, Some, IfOk, length, vec_len, vec_capacity, false, true};
 ghost use Rattle.std.specs.Option.{option_map};
 ghost use Rattle.rv_inst.specs.Spelling.{IsSpelled};
-ghost use Rattle.rv_inst.specs.Meanings.{want_of};
-ghost use Rattle.wf_flat.specs.declared.event.Entry.{Entry as FlatEntry};
 ghost use Rattle.wf_flat.specs.declared.state.Life.TheVariants.{Running};
 ghost use Rattle.wf_flat.specs.State.{PageState};
-ghost use Rattle.wf_legal.specs.Legal.{Moment};
 ghost use Rattle.wf_outside.specs.Pages.{page_of};
-ghost use Rattle.wf_flat.specs.Serving.{held_by, IsWidth};
+ghost use Rattle.wf_outside.specs.declared.sizes.TheConstants.{PAGE_SIZE};
+ghost use Rattle.wf_flat.specs.Serving.{held_by, IsPlace, IsWidth};
 ghost use Rattle.wf_flat.specs.Accesses.{access_of, has_reserved as reserved, stands as standing};
+ghost use Rattle.wf_flat.specs.Changes.{bytes_put, put_with};
+ghost use Rattle.wf_flat.specs.Memory.{data_in};
 ghost use Rattle.wf_flat.specs.Ordered.{IsOrdered};
-ghost use Rattle.wf_flat.specs.Steps.{OfHart, MayMiss, access_in, is_conditional, is_lost as lost};
-ghost use Rattle.wf_flat.specs.Follows.{IsUnit};
-ghost use Rattle.wf_service.specs.Resting.{IsResting};
-ghost use Rattle.wf_driver.specs.Stepping.{IsActing, InAccess, IsStore, IsFoundPage, IsNear, IsPageToSync, WillReach, WillWrite, HasOpenUnit, Continues, store_at, store_want};
+ghost use Rattle.wf_flat.specs.Steps.{OfHart, MayMiss, access_in, is_conditional, is_lost as lost, want_in};
+ghost use Rattle.wf_driver.specs.Stepping.{IsActing, InAccess, IsStore, IsFoundPage, IsNear, IsPageToSync, WillReach, WillWrite, EndsUnit, put_by, store_at, store_want, wanted_by};
 
-use crate::actions::{Operand, Write, finished};
+use crate::actions::{AccessTry, Operand, Write, finished};
 use crate::finding::{Found, data_value, found_at, page_to_sync, text_value};
 use crate::meeting::{meet, take};
 use crate::stepping::{end, trap};
@@ -40,87 +38,56 @@ fn low_bytes(value: u64, width: u8) -> u64
     }
 }
 
-// The low bytes of a value are put by a store into the page that the hart holds, and the try ends.
+// Bytes are put by a hart, in a store-conditional or a store.
+fn put_bytes(flat: &mut Flat, hart: u8, operand: Operand, conditional: bool, value: u64)
+    requires kind { OfHart flat.old hart (λ state. is_conditional (want_in state) ≡ conditional) }
+    requires place { IsPlace operand.va operand.width }
+    requires ordered { IsOrdered flat.old }
+    ensures state { flat.new ≡ bytes_put flat.old hart operand.va operand.width value }
+    ensures page { data_in flat.new.pages (page_of operand.va)
+        ≡ option_map (put_with (operand.va % PAGE_SIZE) operand.width value)
+        (data_in flat.old.pages (page_of operand.va)) }
+    ensures ordered { IsOrdered flat.new }
+{
+    if conditional {
+        flat.put_if(hart, operand.va, operand.width, value);
+    } else {
+        flat.put(hart, operand.va, operand.width, value);
+    }
+}
+
+// The low bytes of a value are put by a store-conditional, or by a store, into the page that the
+// hart holds, and the try ends.
 fn put(
     flat: &mut Flat,
     journal: &mut Vec<Entry>,
-    hart: u8,
-    arch: &Arch,
-    operand: Operand,
+    access: &AccessTry,
+    conditional: bool,
     value: u64,
     page: u32,
 )
     requires room { vec_len journal.old + 1 < vec_capacity journal.old }
-    requires acts { IsActing flat.old hart (Some page) }
-    requires store { IsStore arch.now operand (Write.Put value) }
-    requires ready { InAccess flat.old hart arch.now operand.inst }
-    requires held { Some page ≡ held_by flat.old hart (Some (store_at operand)) }
-    ensures made { (m : Moment) (before : List FlatEntry)
-        → HasOpenUnit m before flat.old journal.old.items hart
-        → Continues m before flat.new journal.new.items (IsUnit hart) }
-    ensures rests { IsResting flat.new }
-    ensures harts { length flat.new.harts ≡ length flat.old.harts }
+    requires acts { IsActing flat.old access.now.hart (Some page) }
+    requires store { IsStore access.now.arch access.now.operand (put_by conditional value) }
+    requires ready { InAccess flat.old access.now }
+    requires held { Some page
+        ≡ held_by flat.old access.now.hart (Some (store_at access.now.operand)) }
+    ensures { EndsUnit access.now.hart flat.old journal.old.items flat.new journal.new.items }
 {
+    let operand = access.operand;
     let low = low_bytes(value, operand.width);
-    flat.put(hart, operand.va, operand.width, low);
+    put_bytes(flat, access.hart, operand, conditional, low);
     append(
         journal,
-        Actor::Hart(hart),
+        Actor::Hart(access.hart),
         Event::Put {
             va: operand.va,
             width: operand.width,
             value: low,
         },
     );
-    end(
-        flat,
-        journal,
-        hart,
-        Some(page),
-        finished(arch, operand.inst, 0),
-    );
-}
-
-// The low bytes of a value are put by a store-conditional into the page that the hart holds, and
-// the try ends.
-fn put_if(
-    flat: &mut Flat,
-    journal: &mut Vec<Entry>,
-    hart: u8,
-    arch: &Arch,
-    operand: Operand,
-    value: u64,
-    page: u32,
-)
-    requires room { vec_len journal.old + 1 < vec_capacity journal.old }
-    requires acts { IsActing flat.old hart (Some page) }
-    requires store { IsStore arch.now operand (Write.PutIf value) }
-    requires ready { InAccess flat.old hart arch.now operand.inst }
-    requires held { Some page ≡ held_by flat.old hart (Some (store_at operand)) }
-    ensures made { (m : Moment) (before : List FlatEntry)
-        → HasOpenUnit m before flat.old journal.old.items hart
-        → Continues m before flat.new journal.new.items (IsUnit hart) }
-    ensures rests { IsResting flat.new }
-    ensures harts { length flat.new.harts ≡ length flat.old.harts }
-{
-    let low = low_bytes(value, operand.width);
-    flat.put_if(hart, operand.va, operand.width, low);
-    append(
-        journal,
-        Actor::Hart(hart),
-        Event::Put {
-            va: operand.va,
-            width: operand.width,
-            value: low,
-        },
-    );
-    end(
-        flat,
-        journal,
-        hart,
-        Some(page),
-        finished(arch, operand.inst, 0),
-    );
+    let next = finished(&access.arch, operand.inst, 0);
+    end(flat, journal, access.hart, Some(page), next);
 }
 
 // Bytes of the page that the hart holds are read, and what an operation makes of them and a value
@@ -128,30 +95,26 @@ fn put_if(
 fn swap(
     flat: &mut Flat,
     journal: &mut Vec<Entry>,
-    hart: u8,
-    arch: &Arch,
-    operand: Operand,
+    access: &AccessTry,
     op: AmoOp,
     value: u64,
     page: u32,
 )
     requires room { vec_len journal.old + 1 < vec_capacity journal.old }
-    requires acts { IsActing flat.old hart (Some page) }
-    requires store { IsStore arch.now operand (Write.Swap op value) }
-    requires ready { InAccess flat.old hart arch.now operand.inst }
-    requires held { Some page ≡ held_by flat.old hart (Some (store_at operand)) }
-    ensures made { (m : Moment) (before : List FlatEntry)
-        → HasOpenUnit m before flat.old journal.old.items hart
-        → Continues m before flat.new journal.new.items (IsUnit hart) }
-    ensures rests { IsResting flat.new }
-    ensures harts { length flat.new.harts ≡ length flat.old.harts }
+    requires acts { IsActing flat.old access.now.hart (Some page) }
+    requires store { IsStore access.now.arch access.now.operand (Write.Swap op value) }
+    requires ready { InAccess flat.old access.now }
+    requires held { Some page
+        ≡ held_by flat.old access.now.hart (Some (store_at access.now.operand)) }
+    ensures { EndsUnit access.now.hart flat.old journal.old.items flat.new journal.new.items }
 {
+    let operand = access.operand;
     let old = data_value(flat, operand.va, operand.width);
     let new = amo(op, operand.width == 8, old, value);
-    flat.swap(hart, operand.va, operand.width, old, new);
+    flat.swap(access.hart, operand.va, operand.width, old, new);
     append(
         journal,
-        Actor::Hart(hart),
+        Actor::Hart(access.hart),
         Event::Swap {
             va: operand.va,
             width: operand.width,
@@ -159,68 +122,54 @@ fn swap(
             new,
         },
     );
-    end(
-        flat,
-        journal,
-        hart,
-        Some(page),
-        finished(arch, operand.inst, old),
-    );
+    let next = finished(&access.arch, operand.inst, old);
+    end(flat, journal, access.hart, Some(page), next);
 }
 
 // A store-conditional misses, and the try ends.
-fn miss(flat: &mut Flat, journal: &mut Vec<Entry>, hart: u8, arch: &Arch, operand: Operand)
+fn miss(flat: &mut Flat, journal: &mut Vec<Entry>, access: &AccessTry)
     requires room { vec_len journal.old + 1 < vec_capacity journal.old }
-    requires acts { IsActing flat.old hart None }
-    requires spelled { IsSpelled operand.inst }
-    requires ready { InAccess flat.old hart arch.now operand.inst }
-    requires access { access_of (Some (want_of operand.inst arch.now)) ≡ Some (store_at operand) }
-    requires conditional { is_conditional (Some (want_of operand.inst arch.now)) ≡ true }
-    requires may { OfHart flat.old hart
+    requires acts { IsActing flat.old access.now.hart None }
+    requires spelled { IsSpelled access.now.operand.inst }
+    requires ready { InAccess flat.old access.now }
+    requires access { access_of (Some (wanted_by access.now))
+        ≡ Some (store_at access.now.operand) }
+    requires conditional { is_conditional (Some (wanted_by access.now)) ≡ true }
+    requires may { OfHart flat.old access.now.hart
         (λ state. (state.life ≡ Running)
-        × MayMiss flat.old hart state (access_in state) operand.va) }
-    ensures made { (m : Moment) (before : List FlatEntry)
-        → HasOpenUnit m before flat.old journal.old.items hart
-        → Continues m before flat.new journal.new.items (IsUnit hart) }
-    ensures rests { IsResting flat.new }
-    ensures harts { length flat.new.harts ≡ length flat.old.harts }
+        × MayMiss flat.old access.now.hart state (access_in state) access.now.operand.va) }
+    ensures { EndsUnit access.now.hart flat.old journal.old.items flat.new journal.new.items }
 {
-    flat.miss(hart, operand.va);
-    append(journal, Actor::Hart(hart), Event::Miss { va: operand.va });
-    end(flat, journal, hart, None, finished(arch, operand.inst, 1));
+    let va = access.operand.va;
+    flat.miss(access.hart, va);
+    append(journal, Actor::Hart(access.hart), Event::Miss { va });
+    let next = finished(&access.arch, access.operand.inst, 1);
+    end(flat, journal, access.hart, None, next);
 }
 
 // A page of data that the hart's generation has met is taken and written, and the try ends.
 fn write_page(
     flat: &mut Flat,
     journal: &mut Vec<Entry>,
-    hart: u8,
-    arch: &Arch,
-    operand: Operand,
+    access: &AccessTry,
     write: Write,
     found: Found,
 )
     requires room { vec_len journal.old + 2 < vec_capacity journal.old }
-    requires acts { IsActing flat.old hart None }
-    requires store { IsStore arch.now operand write }
-    requires ready { InAccess flat.old hart arch.now operand.inst }
-    requires found { IsFoundPage flat.old (page_of operand.va) found }
+    requires acts { IsActing flat.old access.now.hart None }
+    requires store { IsStore access.now.arch access.now.operand write }
+    requires ready { InAccess flat.old access.now }
+    requires found { IsFoundPage flat.old (page_of access.now.operand.va) found }
     requires right { found.write ≡ true }
-    requires near { IsNear flat.old hart operand.va found.page }
-    requires takes { WillWrite flat.old hart operand write true }
-    ensures made { (m : Moment) (before : List FlatEntry)
-        → HasOpenUnit m before flat.old journal.old.items hart
-        → Continues m before flat.new journal.new.items (IsUnit hart) }
-    ensures rests { IsResting flat.new }
-    ensures harts { length flat.new.harts ≡ length flat.old.harts }
+    requires near { IsNear flat.old access.now.hart access.now.operand.va found.page }
+    requires takes { WillWrite flat.old access.now.hart access.now.operand write true }
+    ensures { EndsUnit access.now.hart flat.old journal.old.items flat.new journal.new.items }
 {
-    take(flat, journal, hart, found.page);
+    take(flat, journal, access.hart, found.page);
     match write {
-        Write::Put { value } => put(flat, journal, hart, arch, operand, value, found.page),
-        Write::PutIf { value } => put_if(flat, journal, hart, arch, operand, value, found.page),
-        Write::Swap { op, value } => swap(
-            flat, journal, hart, arch, operand, op, value, found.page,
-        ),
+        Write::Put { value } => put(flat, journal, access, false, value, found.page),
+        Write::PutIf { value } => put(flat, journal, access, true, value, found.page),
+        Write::Swap { op, value } => swap(flat, journal, access, op, value, found.page),
     }
 }
 
@@ -283,26 +232,23 @@ fn stands(reservation: Option<Reservation>, operand: Operand, found: Found) -> b
 pub fn store(
     flat: &mut Flat,
     journal: &mut Vec<Entry>,
-    hart: u8,
-    arch: &Arch,
-    operand: Operand,
+    access: &AccessTry,
     write: Write,
     met: Option<Vec<(u32, u32)>>,
 )
     requires room { vec_len journal.old + 4 < vec_capacity journal.old }
-    requires acts { IsActing flat.old hart None }
-    requires store { IsStore arch.now operand write }
-    requires ready { InAccess flat.old hart arch.now operand.inst }
-    requires met { WillReach flat.old hart operand write
-        → IsPageToSync flat.old hart operand.va (option_map (λ v. v.items) met) }
-    ensures made { (m : Moment) (before : List FlatEntry)
-        → HasOpenUnit m before flat.old journal.old.items hart
-        → Continues m before flat.new journal.new.items (IsUnit hart) }
-    ensures rests { IsResting flat.new }
-    ensures harts { length flat.new.harts ≡ length flat.old.harts }
+    requires acts { IsActing flat.old access.now.hart None }
+    requires store { IsStore access.now.arch access.now.operand write }
+    requires ready { InAccess flat.old access.now }
+    requires met { WillReach flat.old access.now.hart access.now.operand write
+        → IsPageToSync flat.old access.now.hart access.now.operand.va
+        (option_map (λ v. v.items) met) }
+    ensures { EndsUnit access.now.hart flat.old journal.old.items flat.new journal.new.items }
 {
+    let hart = access.hart;
+    let operand = access.operand;
     if is_lost(flat, hart, operand, write) {
-        miss(flat, journal, hart, arch, operand);
+        miss(flat, journal, access);
         return;
     }
     if text_value(flat, hart, operand.va, operand.width).is_some() {
@@ -319,9 +265,9 @@ pub fn store(
     }
     meet(flat, journal, hart, found.page, met);
     if will_write(flat, hart, operand, write, found) {
-        write_page(flat, journal, hart, arch, operand, write, found);
+        write_page(flat, journal, access, write, found);
     } else {
-        miss(flat, journal, hart, arch, operand);
+        miss(flat, journal, access);
     }
 }
 

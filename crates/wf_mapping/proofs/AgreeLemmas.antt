@@ -84,7 +84,7 @@ module _ (words : WordsValue) (r : Records) (homes : Homes) (s : FlatState) (st 
   none_is None e = refl
   none_is (Some p) e = absurd cc
 
-  there_same : (n : ℕ) → is_some (page_at r.pages n) ≡ is_some (data_in s.pages n)
+  pub there_same : (n : ℕ) → is_some (page_at r.pages n) ≡ is_some (data_in s.pages n)
   there_same n = sym (framed (page_at r.pages n)) ∙ ap is_some (st.at_home (DataOf n)) ∙ st.housed.each (DataOf n) ∙ data_tenant s n
     where
       framed : (o : Option PageAt) → is_some (option_map (λ (p : PageAt). p.frame) o) ≡ is_some o
@@ -105,7 +105,7 @@ module _ (words : WordsValue) (r : Records) (homes : Homes) (s : FlatState) (st 
           let recorded : page_at r.pages n ≡ Some (record_of x h.0) = ap (λ (k : ℕ). page_at r.pages k) (sym number) ∙ h.2.recorded in
           ap (λ (o : Option PageAt). unwrap_or (option_map f o) false) recorded ∙ same x h.0 ∙ sym (ap (λ (o : Option PageState). unwrap_or (option_map g o) false) e)
 
-  here_same : (n : ℕ) → is_here_at r n ≡ is_page_here s n
+  pub here_same : (n : ℕ) → is_here_at r n ≡ is_page_here s n
   here_same n = by_record stays (λ page. is_here page.stage) (λ x frame. by_stage x.stage) n
     where
       by_stage : (stage : Stage) → (not (is_going stage) && not (is_ending stage)) ≡ is_here stage
@@ -158,15 +158,15 @@ module _ (words : WordsValue) (r : Records) (homes : Homes) (s : FlatState) (st 
         ∙ any_flat (λ b. b) (λ g. for_view one (view_of r.views g)) (range_with_len 0 (length s.gens))
         ∙ sym (any_index (λ gen. gen.live && is_some (page_in gen.text n)) by_view s.gens 0 (λ i gen e. (gen_same i gen e ∙ ap by_view (let z : i ≡ 0 + i = omega arith in z))))
 
-  overlap_same : (ps : List ℕ) → overlap_in r ps ≡ overlap s ps
+  pub overlap_same : (ps : List ℕ) → overlap_in r ps ≡ overlap s ps
   overlap_same ps =
       ap (option_map Overlap)
       (find_same (λ page. is_here_at r page || is_text_at r page) (λ page. is_page_here s page || is_live_text s page) (λ n. (ap (λ (b : Bool). b || is_text_at r n) (here_same n) ∙ ap (λ (b : Bool). is_page_here s n || b) (text_same n))) ps)
 
-  leaving_same : (ps : List ℕ) → leaving_in r ps ≡ leaving s ps
+  pub leaving_same : (ps : List ℕ) → leaving_in r ps ≡ leaving s ps
   leaving_same ps = ap (option_map Leaving) (find_same (is_ending_at r) (λ page. is_page_ending s page) ending_same ps)
 
-  free_same : length (free_in r) ≡ free_of s
+  pub free_same : length (free_in r) ≡ free_of s
   free_same =
       let e : length (free_in r) ≡ length (free_frames s.limits.frames homes) = ap length (free_agree words r homes s st) in
       let c : length (free_frames s.limits.frames homes) + used_of s + s.worn ≡ s.limits.frames = free_counted homes s st.housed (tenants_counted s tidy) in
@@ -204,7 +204,7 @@ module _ (words : WordsValue) (r : Records) (homes : Homes) (s : FlatState) (st 
             let c : is_going x.stage ≡ false = found_each (λ page. is_going page.stage ≡ false) s.pages n x going e in
             absurd (by_stage x.stage a b c)
 
-    all_absent : (ps : List ℕ) → overlap s ps ≡ None → leaving s ps ≡ None → AllByRecursion (λ page. data_in s.pages page ≡ None) ps
+    pub all_absent : (ps : List ℕ) → overlap s ps ≡ None → leaving s ps ≡ None → AllByRecursion (λ page. data_in s.pages page ≡ None) ps
     all_absent [] o l = tt
     all_absent (n ∷ ps) o l = elim (true_or_false (is_page_here s n || is_live_text s n)) [
       | inl t ↦ absurd (let k : Some (Overlap n) ≡ None = rw t at o in cc)

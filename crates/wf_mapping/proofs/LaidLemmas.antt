@@ -33,16 +33,16 @@ use Rattle.wf_mapping.proofs.FreeLemmas.{free_agree}
 use Rattle.wf_mapping.proofs.NodeLemmas.{is_new, live_tenants, nodes_new, tenant_of}
 use Rattle.wf_mapping.proofs.TreeLemmas.{filter_both}
 
-all_stay : {A : Type 0} (keeps : A → Bool) (xs : List A) → AllByRecursion (λ x. keeps x ≡ true) xs → filter keeps xs ≡ xs
+pub all_stay : {A : Type 0} (keeps : A → Bool) (xs : List A) → AllByRecursion (λ x. keeps x ≡ true) xs → filter keeps xs ≡ xs
 all_stay keeps [] all = refl
 all_stay {A = A} keeps (x ∷ xs) all = rw all.0 (ap (λ (ys : List A). x ∷ ys) (all_stay keeps xs all.1))
 
-none_stays : {A : Type 0} (keeps : A → Bool) (xs : List A) → AllByRecursion (λ x. keeps x ≡ false) xs → filter keeps xs ≡ []
+pub none_stays : {A : Type 0} (keeps : A → Bool) (xs : List A) → AllByRecursion (λ x. keeps x ≡ false) xs → filter keeps xs ≡ []
 none_stays keeps [] all = refl
 none_stays keeps (x ∷ xs) all = rw all.0 (none_stays keeps xs all.1)
 
 -- homes that are made of two lists
-zip_both : {A : Type 0} (xs ys : List A) (fs : List ℕ) → zip (xs ++ ys) fs ≡ zip xs (take (length xs) fs) ++ zip ys (drop (length xs) fs)
+pub zip_both : {A : Type 0} (xs ys : List A) (fs : List ℕ) → zip (xs ++ ys) fs ≡ zip xs (take (length xs) fs) ++ zip ys (drop (length xs) fs)
 zip_both [] ys fs = refl
 zip_both (x ∷ xs) [] [] = refl
 zip_both (x ∷ xs) (y ∷ ys) [] = refl
@@ -53,7 +53,7 @@ pages_zipped write page zero fs = refl
 pages_zipped write page (suc n) [] = refl
 pages_zipped write page (suc n) (f ∷ fs) = ap (λ (ps : List (Tenant × ℕ)). (DataOf page, f) ∷ ps) (pages_zipped write (page + 1) n fs)
 
-nodes_zipped : (of : MissingNode → Tenant) → ((m : MissingNode) → of m ≡ NodeOf m.generation m.level m.prefix) → (ms : List MissingNode) (fs : List ℕ) → zip (map of ms) fs ≡ map node_home (nodes_placed ms fs)
+pub nodes_zipped : (of : MissingNode → Tenant) → ((m : MissingNode) → of m ≡ NodeOf m.generation m.level m.prefix) → (ms : List MissingNode) (fs : List ℕ) → zip (map of ms) fs ≡ map node_home (nodes_placed ms fs)
 nodes_zipped of is [] fs = refl
 nodes_zipped of is (m ∷ ms) [] = refl
 nodes_zipped of is (m ∷ ms) (f ∷ fs) = ap (λ (t : Tenant). (t, f) ∷ zip (map of ms) fs) (is m) ∙ ap (λ (ps : List (Tenant × ℕ)). (NodeOf m.generation m.level m.prefix, f) ∷ ps) (nodes_zipped of is ms fs)

@@ -14,7 +14,7 @@ use Rattle.wf_flat.specs.Boot.{places_with}
 use Rattle.wf_flat.specs.Ordered.{IsGen}
 use Rattle.wf_flat.specs.State.{FlatState, GenState, PageState}
 use Rattle.wf_effects.specs.Effects.{reaching}
-use Rattle.wf_homes.specs.Homes.{Homes, NodeOf, Tenant, TextOf, home_frame, node_tenants, same_tenant, text_tenants, tree_nodes}
+use Rattle.wf_homes.specs.Homes.{Homes, NodeOf, Tenant, TextOf, has_tenant, home_frame, node_tenants, same_tenant, text_tenants, tree_nodes}
 use Rattle.wf_homes.specs.Kept.{IsKeptView, node_frame}
 use Rattle.wf_homes.specs.Laws.{IsTidy}
 use Rattle.wf_homes.specs.Stands.{StandsFor, living_at}
@@ -147,6 +147,27 @@ module _ (g level prefix : ℕ) where
       let apart : (g == x.number) ≡ false = grind (arith, nat_tests) in
       rw (other_gen x x.live refl apart) (only_gen xs (a + 1) k gen (λ i y f. (let n : y.number ≡ a + suc i = placed (suc i) y f in omega arith)) e (omega arith))
 
+-- the nodes of a generation that lives are those of its tree
+pub node_tenant : (s : FlatState) → IsTidy s → (g : ℕ) (gen : GenState) → slice_get s.gens g ≡ Some gen → gen.live ≡ true → (n : ℕ × ℕ) → has_tenant s (NodeOf g n.0 n.1) ≡ list_any (same_node n) (tree_nodes gen.reach)
+node_tenant s tidy g gen at live n =
+    parts s (NodeOf g n.0 n.1)
+    ∙ ap (λ (b : Bool). (b || is_member same_tenant (data_tenants s.pages) (NodeOf g n.0 n.1)) || is_member same_tenant (flat_map node_tenants s.gens) (NodeOf g n.0 n.1)) (no_text s.gens)
+    ∙ ap (λ (b : Bool). b || is_member same_tenant (flat_map node_tenants s.gens) (NodeOf g n.0 n.1)) (no_data s.pages)
+    ∙ any_flat (same_tenant (NodeOf g n.0 n.1)) node_tenants s.gens
+    ∙ only_gen g n.0 n.1 s.gens 0 g gen (λ i x e. (let k : x.number ≡ i = tidy.placed i x e in omega arith)) at (omega arith)
+    ∙ its_gen g n.0 n.1 gen live (tidy.placed g gen at)
+  where
+    no_data : (ps : List PageState) → is_member same_tenant (data_tenants ps) (NodeOf g n.0 n.1) ≡ false
+    no_data [] = refl
+    no_data (p ∷ ps) = no_data ps
+
+    no_text : (gens : List GenState) → is_member same_tenant (flat_map text_tenants gens) (NodeOf g n.0 n.1) ≡ false
+    no_text gens = any_flat (same_tenant (NodeOf g n.0 n.1)) text_tenants gens ∙ any_same (λ gen. list_any (same_tenant (NodeOf g n.0 n.1)) (text_tenants gen)) (λ gen. false) (λ gen. one gen gen.live refl) gens ∙ none_any gens
+      where
+        one : (x : GenState) (b : Bool) → x.live ≡ b → list_any (same_tenant (NodeOf g n.0 n.1)) (text_tenants x) ≡ false
+        one x true e = rw e (any_map (same_tenant (NodeOf g n.0 n.1)) (TextOf x.number) (text_numbers x.text) ∙ none_any (text_numbers x.text))
+        one x false e = rw e refl
+
 module _ (words : WordsValue) (r : Records) (homes : Homes) (s : FlatState) (st : StandsFor words r homes s) (tidy : IsTidy s) (pages : List ℕ) where
   -- whether a tenant has no home yet
   abbrev pub is_new : Tenant → Bool
@@ -157,25 +178,7 @@ module _ (words : WordsValue) (r : Records) (homes : Homes) (s : FlatState) (st 
 
   -- the nodes of a generation that are there, and have a home
   node_there : (g : ℕ) (gen : GenState) → slice_get s.gens g ≡ Some gen → gen.live ≡ true → (n : ℕ × ℕ) → is_new (NodeOf g n.0 n.1) ≡ not (list_any (same_node n) (tree_nodes gen.reach))
-  node_there g gen at live n =
-      ap not (st.housed.each (NodeOf g n.0 n.1)
-      ∙ parts s (NodeOf g n.0 n.1)
-      ∙ ap (λ (b : Bool). (b || is_member same_tenant (data_tenants s.pages) (NodeOf g n.0 n.1)) || is_member same_tenant (flat_map node_tenants s.gens) (NodeOf g n.0 n.1)) (no_text s.gens)
-      ∙ ap (λ (b : Bool). b || is_member same_tenant (flat_map node_tenants s.gens) (NodeOf g n.0 n.1)) (no_data s.pages)
-      ∙ any_flat (same_tenant (NodeOf g n.0 n.1)) node_tenants s.gens
-      ∙ only_gen g n.0 n.1 s.gens 0 g gen (λ i x e. (let k : x.number ≡ i = tidy.placed i x e in omega arith)) at (omega arith)
-      ∙ its_gen g n.0 n.1 gen live (tidy.placed g gen at))
-    where
-      no_data : (ps : List PageState) → is_member same_tenant (data_tenants ps) (NodeOf g n.0 n.1) ≡ false
-      no_data [] = refl
-      no_data (p ∷ ps) = no_data ps
-
-      no_text : (gens : List GenState) → is_member same_tenant (flat_map text_tenants gens) (NodeOf g n.0 n.1) ≡ false
-      no_text gens = any_flat (same_tenant (NodeOf g n.0 n.1)) text_tenants gens ∙ any_same (λ gen. list_any (same_tenant (NodeOf g n.0 n.1)) (text_tenants gen)) (λ gen. false) (λ gen. one gen gen.live refl) gens ∙ none_any gens
-        where
-          one : (x : GenState) (b : Bool) → x.live ≡ b → list_any (same_tenant (NodeOf g n.0 n.1)) (text_tenants x) ≡ false
-          one x true e = rw e (any_map (same_tenant (NodeOf g n.0 n.1)) (TextOf x.number) (text_numbers x.text) ∙ none_any (text_numbers x.text))
-          one x false e = rw e refl
+  node_there g gen at live n = ap not (st.housed.each (NodeOf g n.0 n.1) ∙ node_tenant s tidy g gen at live n)
 
   -- the nodes of a generation that are new are those that its view lacks
   abbrev tenant_in : ℕ → ℕ × ℕ → Tenant

@@ -29,7 +29,7 @@ same_is : (a b : ℕ) → (a == b) ≡ true → a ≡ b
 same_is a b e = grind (arith, nat_tests)
 
 -- a node at level 1 is there where a place below it is reached
-upper_there : (reach : List ℕ) (u : ℕ) → list_any (same_node (1, u)) (tree_nodes reach) ≡ list_any (λ p. u == p / 512) reach
+pub upper_there : (reach : List ℕ) (u : ℕ) → list_any (same_node (1, u)) (tree_nodes reach) ≡ list_any (λ p. u == p / 512) reach
 upper_there reach u =
     any_flat (same_node (1, u)) (nodes_below reach) (places_with [] reach)
     ∙ any_same (λ v. list_any (same_node (1, u)) (nodes_below reach v)) (λ v. u == v) (λ v. (
@@ -42,7 +42,7 @@ upper_there reach u =
     or_none false = refl
 
 -- and a node at level 0 where its place is
-place_there : (reach : List ℕ) (p : ℕ) → list_any (same_node (0, p)) (tree_nodes reach) ≡ list_any (λ q. p == q) reach
+pub place_there : (reach : List ℕ) (p : ℕ) → list_any (same_node (0, p)) (tree_nodes reach) ≡ list_any (λ q. p == q) reach
 place_there reach p =
     any_flat (same_node (0, p)) (nodes_below reach) (places_with [] reach)
     ∙ any_same (λ v. list_any (same_node (0, p)) (nodes_below reach v)) (λ v. list_any (λ q. (q / 512 == v) && (p == q)) reach) (λ v. (

@@ -60,8 +60,8 @@ fn put_pointers(words: &mut Vec<u64>, nodes: &[NewNode], above: NewNode)
     }
 }
 
-// The words of a new node.
-fn words_of_node(blanks: &mut Blanks, nodes: &[NewNode], above: NewNode) -> Vec<u64>
+/// The words of a new node. It takes one pass over the new nodes.
+pub fn words_of_node(blanks: &mut Blanks, nodes: &[NewNode], above: NewNode) -> Vec<u64>
     requires { 0 < blanks.old }
     ensures words { result.items ≡ plans.words_of_node nodes.now above }
     ensures blanks { blanks.new ≡ blanks.old - 1 }
@@ -162,7 +162,7 @@ pub(crate) fn mark_pages(changes: &mut Roomy<Change>, pages: &[PageAt])
 }
 
 /// The frames of new nodes are taken.
-pub(crate) fn mark_nodes(changes: &mut Roomy<Change>, nodes: &[NewNode])
+pub fn mark_nodes(changes: &mut Roomy<Change>, nodes: &[NewNode])
     requires { length nodes.now ≤ changes.old.room }
     ensures { changes.new ≡ all_pushed (map node_marked nodes.now) changes.old }
 {

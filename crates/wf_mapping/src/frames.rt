@@ -7,7 +7,7 @@ use wf_outside::Memory;
 use wf_views::Records;
 
 /// The lowest free frames, so many, or all where fewer are free. None is taken.
-pub(crate) fn lowest_free(alloc: Global, records: &Records, n: u64) -> Result<Vec<u32>, Memory>
+pub fn lowest_free(alloc: Global, records: &Records, n: u64) -> Result<Vec<u32>, Memory>
     ensures { IfOk result (λ frames. frames.items ≡ take n (free_in records.now)) }
 {
     let _count = records.frames.count();

@@ -69,8 +69,8 @@ fn place_node(missing: MissingNode, frame: u32) -> NewNode
     }
 }
 
-// Nodes that were missing, in these frames.
-fn place_nodes(
+/// Nodes that were missing, in these frames.
+pub fn place_nodes(
     alloc: Global,
     missing: &[MissingNode],
     frames: &[u32],
@@ -111,8 +111,8 @@ fn first_frames(frames: &[u32], n: u64) -> &[u32]
     }
 }
 
-// These frames but for the first, so many.
-fn other_frames(frames: &[u32], n: u64) -> &[u32]
+/// These frames but for the first, so many.
+pub fn other_frames(frames: &[u32], n: u64) -> &[u32]
     ensures { result.now ≡ drop n frames.now }
 {
     if n < frames.len() as u64 {

@@ -13,10 +13,13 @@ mod reserving;
 mod room;
 
 pub use blanks::Blanks;
+pub use filling::{mark_nodes, words_of_node};
+pub use frames::lowest_free;
 pub use laws::{
     free_frames_agree, homes_are_laid_out, map_refusals_agree, need_is_counted, room_stands,
 };
-pub use layout::{Layout, Mapping, lay_out};
-pub use nodes::{MissingNode, NewNode};
-pub use planning::{fill_map, plan_map, prepare_map};
+pub use layout::{Layout, Mapping, lay_out, other_frames, place_nodes};
+pub use nodes::{MissingNode, NewNode, missing_node, tree_of};
+pub use planning::{fill_map, plan_map, plan_with, prepare_map};
+pub use refusing::{no_frames, stays};
 pub use room::MapRoom;

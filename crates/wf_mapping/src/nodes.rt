@@ -50,8 +50,8 @@ fn push_all_below(nodes: &mut Vec<(u8, u32)>, uppers: &[u32], reach: &[u32]) -> 
     Ok(())
 }
 
-// The nodes of a page table that reaches these places.
-fn tree_of(alloc: Global, reach: &[u32]) -> Result<Vec<(u8, u32)>, Memory>
+/// The nodes of a page table that reaches these places, each by its level and prefix.
+pub fn tree_of(alloc: Global, reach: &[u32]) -> Result<Vec<(u8, u32)>, Memory>
     ensures { IfOk result (λ nodes. nodes.items ≡ tree_nodes reach.now) }
 {
     let mut uppers = Vec::new(alloc);
@@ -98,8 +98,8 @@ fn lacks(view: &View, node: (u8, u32)) -> bool
     node_frame(view, u16::from(node.0), node.1).is_none()
 }
 
-// A node that is missing in the page table of a generation.
-fn missing_node(generation: u32, node: (u8, u32)) -> MissingNode
+/// A node that is missing in the page table of a generation.
+pub fn missing_node(generation: u32, node: (u8, u32)) -> MissingNode
     ensures { result ≡ nodes.missing_node generation node }
 {
     MissingNode {

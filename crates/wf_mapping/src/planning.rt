@@ -34,8 +34,8 @@ fn most_changes(pages: u64, nodes: u64) -> Option<u64>
     changes.checked_add(1)
 }
 
-// An empty plan with room for so many pieces and changes.
-fn plan_with(alloc: Global, pieces: u64, changes: u64) -> Result<Plan, Memory>
+/// An empty plan with room for so many pieces and changes.
+pub fn plan_with(alloc: Global, pieces: u64, changes: u64) -> Result<Plan, Memory>
     ensures empty { IfOk result IsEmpty }
     ensures pieces { IfOk result (λ plan. pieces ≤ plan.pieces.room) }
     ensures changes { IfOk result (λ plan. changes ≤ plan.changes.room) }

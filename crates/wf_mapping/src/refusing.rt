@@ -1,19 +1,20 @@
 //! What a mapping is refused for.
-ghost use Rattle.std.specs.Prelude.{◌≡◌, ◌≤◌, ◌+◌, ◌==◌, ◌||◌, is_some};
+ghost use Rattle.std.specs.Prelude.{◌≡◌, ◌≤◌, ◌+◌, ◌==◌, ◌||◌, is_some, length};
 ghost use Rattle.std.specs.List.{find, list_any, range_with_len};
 ghost use Rattle.wf_outside.specs.declared.sizes.TheConstants.{ADDRESS_PAGES};
 ghost use Rattle.wf_homes.specs.Kept.{text_frame};
 ghost use Rattle.wf_space.specs.Jobs.{is_ending_at};
-ghost use Rattle.wf_mapping.specs.Layout.{need_of};
-ghost use Rattle.wf_mapping.specs.Refusals.{is_here_at, is_text_at, no_frames_in, refusal_in, stays};
+ghost use Rattle.wf_verdict.specs.Verdict.{more_than_free};
+ghost use Rattle.wf_mapping.specs.Layout.{free_in, need_of};
+ghost use Rattle.wf_mapping.specs.Refusals.{is_here_at, is_text_at, refusal_in, stays};
 ghost use Rattle.wf_mapping.specs.Room.{CanMap};
 
 use crate::Mapping;
 use wf_outside::{PAGE_SIZE, Refusal};
 use wf_views::{PageAt, Records, TextAt, View};
 
-// Whether no unmap of a page has begun.
-fn stays(page: PageAt) -> bool
+/// Whether no unmap of a page has begun.
+pub fn stays(page: PageAt) -> bool
     ensures { result ≡ stays page }
 {
     !page.going && !page.ending
@@ -102,10 +103,9 @@ fn first_leaving(records: &Records, first: u32, pages: u64) -> Option<u32>
     None
 }
 
-// NoFrames, where the mapping needs more frames than are free.
-fn no_frames(records: &Records, mapping: Mapping, need: u64) -> Option<Refusal>
-    requires { need ≡ need_of records.now mapping }
-    ensures { result ≡ no_frames_in records.now mapping }
+/// NoFrames, where more frames are needed than are free.
+pub fn no_frames(records: &Records, need: u64) -> Option<Refusal>
+    ensures { result ≡ more_than_free need (length (free_in records.now)) }
 {
     let free = records.frames.free();
     if free < need {
@@ -129,5 +129,5 @@ pub(crate) fn map_refusal(records: &Records, mapping: Mapping, need: u64) -> Opt
     if let Some(page) = first_leaving(records, first, mapping.pages) {
         return Some(Refusal::Leaving { page });
     }
-    no_frames(records, mapping, need)
+    no_frames(records, need)
 }

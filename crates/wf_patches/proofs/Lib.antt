@@ -3,3 +3,4 @@ pub mod StageLemmas
 pub mod ReachLemmas
 pub mod ObjectLemmas
 pub mod FetchLemmas
+pub mod NeedLemmas

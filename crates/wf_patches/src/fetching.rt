@@ -128,8 +128,8 @@ pub fn fetch_patches<S: Shelf>(
         (λ files. IsReadFault status
         ⊎ (patches_stage (held_in files) image.now patches.now ≡ Err status))) }
     ensures kind { IfErr result MayFetchPatches }
-    // A read fails only where the count of a needed name rose; where the shelf does not tell what it
-    // holds, of some name.
+    // A read fails only where the count of a needed name rose; where the shelf does not tell what
+    // it holds, of some name.
     ensures shelf { result ≡ Err Status.Shelf
         → OfSome (λ name. HasRisen (S.faults shelf.old name) (S.faults shelf.new name)) }
     ensures needed { result ≡ Err Status.Shelf → IfSome (S.holds shelf.old)

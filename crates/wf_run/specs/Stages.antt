@@ -75,8 +75,8 @@ frames_stage sizes files =
     then Err (Limit Frames (frames_used sizes files.image) sizes.frames)
     else Ok files
 
--- what a run starts from, or the answer of the first stage that fails, in this order: image, script,
--- patches, frames
+-- what a run starts from, or the answer of the first stage that fails, in this order: image,
+-- script, patches, frames
 abbrev pub files_stage : Sizes → (List ℕ → Option (List ℕ)) → List ℕ → List ℕ
     → Result RunFilesValue Status
 files_stage sizes held image_name script_name = do

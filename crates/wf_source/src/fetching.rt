@@ -2,7 +2,7 @@
 ghost use Rattle.std.specs.Prelude.{◌≡◌, ◌≤◌, ℕ, List, IfOk, IfErr, IfSome, Err};
 ghost use Rattle.wf_outside.specs.Files.{HasRisen, first_bytes};
 ghost use Rattle.wf_status.specs.declared.status.Status.{Status};
-ghost use Rattle.wf_source.specs.Sources.{HoldsFile, IsFile, rule_of};
+ghost use Rattle.wf_source.specs.Sources.{HoldsFile, IsFile, rule_of, status_of};
 ghost use Rattle.wf_source.specs.Fetching.{IsFileStatus, IsSourceStatus, MayFetchFile};
 
 use elf_write::{Form, write};
@@ -24,6 +24,19 @@ fn rule_of(rule: AsmRule) -> SourceRule
     }
 }
 
+/// The answer where a source is not assembled: its first fault with its line, or Memory.
+pub fn fault_status(fault: AsmFault) -> Status
+    ensures { result ≡ status_of (Err fault) }
+{
+    match fault {
+        AsmFault::At { line, rule } => Status::Source {
+            rule: rule_of(rule),
+            line,
+        },
+        AsmFault::Memory => Status::Memory,
+    }
+}
+
 // The file of the module of this form that a source means.
 fn file_of(alloc: Global, source: &[u8], form: Form) -> Result<Vec<u8>, Status>
     ensures file { IfOk result (λ file. IsFile form source.now file.items) }
@@ -31,11 +44,7 @@ fn file_of(alloc: Global, source: &[u8], form: Form) -> Result<Vec<u8>, Status>
 {
     let module = match assemble(alloc, source, form) {
         Ok(module) => module,
-        Err(AsmFault::At { line, rule }) => return Err(Status::Source {
-            rule: rule_of(rule),
-            line,
-        }),
-        Err(AsmFault::Memory) => return Err(Status::Memory),
+        Err(fault) => return Err(fault_status(fault)),
     };
     match write(alloc, &module) {
         Ok(file) => Ok(file),

@@ -3,4 +3,4 @@
 
 mod fetching;
 
-pub use fetching::fetch_file;
+pub use fetching::{fault_status, fetch_file};

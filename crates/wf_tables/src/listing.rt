@@ -96,25 +96,33 @@ fn push_word(out: &mut Vec<u8>, level: u8, frame: u32, i: u32, word: u64) -> Res
     Ok(())
 }
 
+// A node of a generation's page table, by its prefix, and the frame in which it lies.
+#[derive(Clone, Copy)]
+struct TableNode {
+    generation: u32,
+    prefix: u32,
+    frame: u32,
+}
+
 // The lines of so many words of a node of level 0.
 fn push_leaves(
     out: &mut Vec<u8>,
     index: &BTreeMap<Tenant, u32>,
-    generation: u32,
-    prefix: u32,
-    frame: u32,
+    node: TableNode,
     count: u32,
     flat: &Flat,
 ) -> Result<(), Memory>
     requires ordered { IsOrdered flat.now }
-    requires low { prefix < 2 ^ 18 }
+    requires low { node.prefix < 2 ^ 18 }
     requires few { count ≤ PAGE_WORDS }
     ensures { OnOk result ((homes : HomesValue) → IsIndex index.now homes.homes → out.new.items
-        ≡ out.old.items ++ leaves_listed homes flat.now generation prefix frame count) }
+        ≡ out.old.items
+        ++ leaves_listed homes flat.now node.generation node.prefix node.frame count) }
 {
     for i in 0..count {
-        let word = leaf_for(index, generation, prefix * PAGE_WORDS as u32 + i, flat);
-        push_word(out, 0, frame, i, word)?;
+        let page = node.prefix * PAGE_WORDS as u32 + i;
+        let word = leaf_for(index, node.generation, page, flat);
+        push_word(out, 0, node.frame, i, word)?;
     }
     Ok(())
 }
@@ -123,17 +131,20 @@ fn push_leaves(
 fn push_lower(
     out: &mut Vec<u8>,
     index: &BTreeMap<Tenant, u32>,
-    generation: u32,
-    prefix: u32,
-    frame: u32,
+    upper: TableNode,
     i: u32,
     flat: &Flat,
 ) -> Result<(), Memory>
     requires ordered { IsOrdered flat.now }
-    requires low { prefix < 2 ^ 18 }
+    requires low { upper.prefix < 2 ^ 9 }
+    requires within { i < PAGE_WORDS }
     ensures { OnOk result ((homes : HomesValue) → IsIndex index.now homes.homes → out.new.items
-        ≡ out.old.items ++ below_listed homes flat.now generation 0 prefix frame i) }
+        ≡ out.old.items
+        ++ below_listed homes flat.now upper.generation 0 (upper.prefix * PAGE_WORDS + i)
+        upper.frame i) }
 {
+    let generation = upper.generation;
+    let prefix = upper.prefix * PAGE_WORDS as u32 + i;
     let home = home_of(
         index,
         Tenant::Node {
@@ -142,17 +153,14 @@ fn push_lower(
             prefix,
         },
     );
-    push_word(out, 1, frame, i, pointer_to(home))?;
-    if let Some(node) = home {
-        push_leaves(
-            out,
-            index,
+    push_word(out, 1, upper.frame, i, pointer_to(home))?;
+    if let Some(frame) = home {
+        let node = TableNode {
             generation,
             prefix,
-            node,
-            PAGE_WORDS as u32,
-            flat,
-        )?;
+            frame,
+        };
+        push_leaves(out, index, node, PAGE_WORDS as u32, flat)?;
     }
     Ok(())
 }
@@ -161,21 +169,19 @@ fn push_lower(
 fn push_lowers(
     out: &mut Vec<u8>,
     index: &BTreeMap<Tenant, u32>,
-    generation: u32,
-    prefix: u32,
-    frame: u32,
+    node: TableNode,
     count: u32,
     flat: &Flat,
 ) -> Result<(), Memory>
     requires ordered { IsOrdered flat.now }
-    requires low { prefix < 2 ^ 9 }
+    requires low { node.prefix < 2 ^ 9 }
     requires few { count ≤ PAGE_WORDS }
     ensures { OnOk result ((homes : HomesValue) → IsIndex index.now homes.homes → out.new.items
-        ≡ out.old.items ++ uppers_listed homes flat.now generation 0 prefix frame count) }
+        ≡ out.old.items
+        ++ uppers_listed homes flat.now node.generation 0 node.prefix node.frame count) }
 {
     for i in 0..count {
-        let lower = prefix * PAGE_WORDS as u32 + i;
-        push_lower(out, index, generation, lower, frame, i, flat)?;
+        push_lower(out, index, node, i, flat)?;
     }
     Ok(())
 }
@@ -203,16 +209,13 @@ fn push_middle(
         },
     );
     push_word(out, 2, frame, prefix, pointer_to(home))?;
-    if let Some(node) = home {
-        push_lowers(
-            out,
-            index,
+    if let Some(lower) = home {
+        let node = TableNode {
             generation,
             prefix,
-            node,
-            PAGE_WORDS as u32,
-            flat,
-        )?;
+            frame: lower,
+        };
+        push_lowers(out, index, node, PAGE_WORDS as u32, flat)?;
     }
     Ok(())
 }

@@ -29,8 +29,8 @@ pub record HoldsRight (held : List ℕ → Option (List ℕ)) (image journal : L
   pub is : IsAccepted held image journal count
   pub text_is : text ≡ right_line count
 
--- the files that a command may read, where the shelf tells what it holds; `make` reads none, whatever
--- the shelf holds
+-- the files that a command may read, where the shelf tells what it holds; `make` reads none,
+-- whatever the shelf holds
 abbrev pub files_for : Command → Option (List File) → Option (List File)
 files_for (Run image script sizes) holds = holds
 files_for (Check image journal) holds = holds
@@ -45,8 +45,8 @@ IsOutput (Check image journal) held text = HoldsRight held image journal text
 IsOutput (Assemble source form) held text = HoldsFile form (held source) (λ file. file ≡ text)
 IsOutput (Make functions) held text = HasLine functions text
 
--- the answer to an assembly of this form, by the bytes of the source's file: its first fault, or that
--- its file was put; or the answer where they are not read
+-- the answer to an assembly of this form, by the bytes of the source's file: its first fault, or
+-- that its file was put; or the answer where they are not read
 abbrev pub source_answer : Form → Result (List ℕ) Status → Status
 source_answer form (Ok bytes) = status_of (assembled form bytes)
 source_answer form (Err answer) = answer

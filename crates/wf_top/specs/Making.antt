@@ -1,5 +1,5 @@
--- The command `make`: the run of a program that is made, with patches for it, and the line that says
--- how it ended.
+-- The command `make`: the run of a program that is made, with patches for it, and the line that
+-- says how it ended.
 use Rattle.std.specs.Prelude.{ℕ, List, [], ◌∷◌, ◌++◌, Option, Some, None, Result, Ok, Err, ◌≡◌, codes, length, sum_by}
 use Rattle.std.specs.Fmt.{decimal}
 use Rattle.rv_asm.specs.declared.fault.AsmFault.{AsmFault}
@@ -70,8 +70,8 @@ run_line functions files run =
     ended_line functions files.script
     (end_of (start_for USUAL files.deltas files.image) run.entries).flat.harts
 
--- the files that are made for so many functions are those of a run, which has a report as `run` puts
--- it, and this is the line of that run
+-- the files that are made for so many functions are those of a run, which has a report as `run`
+-- puts it, and this is the line of that run
 pub record HasLine (functions : ℕ) (text : List ℕ) : Type 0 where
   pub files : List File
   pub made : made_files functions ≡ Ok files

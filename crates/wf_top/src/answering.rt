@@ -63,8 +63,9 @@ fn put_output<S: Shelf, K: Sink>(
 /// patches that the journal names, and `ok N` is put where all of its N entries are right.
 /// `asm SOURCE [--object]`: the source is assembled, and the ELF executable that it means is put,
 /// or the relocatable file.
-/// `make N`: a program of so many functions is made, with patches for it, and its script is run, and
-/// a line says how the run ended; no file is read. After `Memory` nothing was put, or a front of the output.
+/// `make N`: a program of so many functions is made, with patches for it, and its script is run,
+/// and a line says how the run ended; no file is read. After `Memory` nothing was put, or a front
+/// of the output.
 pub fn top<S: Shelf, K: Sink>(alloc: Global, words: &[Text], shelf: &mut S, sink: &mut K) -> Status
     // The words are those of no command.
     ensures words { result ≡ Status.Words → asked_by words.now ≡ None }
@@ -72,7 +73,8 @@ pub fn top<S: Shelf, K: Sink>(alloc: Global, words: &[Text], shelf: &mut S, sink
         → (result ≡ Status.Words) ⊎ (result ≡ Status.Memory) }
 
     // The read of a file failed; and of a needed one, where the shelf tells what it holds: of the
-    // first, of the second where the first is an image, or of one for a patch that the second names.
+    // first, of the second where the first is an image, or of one for a patch that the second
+    // names.
     ensures shelf { result ≡ Status.Shelf
         → IfSome (asked_by words.now)
         (λ command. OfNamed command
@@ -100,8 +102,8 @@ pub fn top<S: Shelf, K: Sink>(alloc: Global, words: &[Text], shelf: &mut S, sink
         (λ command held. (status : Status) → CallsFor command held status
         → (result ≡ status) ⊎ IsFault result) }
 
-    // Where the files call for an output, and no count of the faults of a needed file or of the sink
-    // rose, the answer is Done or Memory.
+    // Where the files call for an output, and no count of the faults of a needed file or of the
+    // sink rose, the answer is Done or Memory.
     ensures complete { IfAsked words.now (S.holds shelf.old)
         (λ command held. CallsFor command held Status.Done
         → ¬ OfNeeded command held

@@ -1,10 +1,9 @@
 //! The command `make`.
-ghost use Rattle.std.specs.Prelude.{◌≡◌, ◌≢◌, ◌<◌, ◌≤◌, ◌⊎◌, ◌^◌, Err, IfErr, IfOk, string_bytes, sum_by};
+ghost use Rattle.std.specs.Prelude.{◌≡◌, ◌≢◌, ◌<◌, ◌≤◌, ◌⊎◌, ◌^◌, IfErr, IfOk, string_bytes, sum_by};
 ghost use Rattle.wf_outside.specs.MemFiles.{files_of};
 ghost use Rattle.wf_script.specs.Commands.{units_of};
 ghost use Rattle.wf_status.specs.declared.status.Status.{Status};
 ghost use Rattle.wf_fetch.specs.Stages.{IsReadFault};
-ghost use Rattle.wf_source.specs.Sources.{rule_of, status_of};
 ghost use Rattle.wf_gen.specs.Files.{made_files};
 ghost use Rattle.wf_patches.specs.Needed.{held_in};
 ghost use Rattle.wf_usage.specs.declared.sizes.TheConstants.{USUAL};
@@ -12,41 +11,16 @@ ghost use Rattle.wf_run.specs.Answers as runs;
 ghost use Rattle.wf_run.specs.Answers.{HoldsRun, MayFail};
 ghost use Rattle.wf_top.specs.Making.{HasLine, HasMade, code_text, ended_line, exit_code, line_of, making_answer, program_name, script_name};
 
-use rv_asm::{AsmFault, AsmRule};
 use std::alloc::{AllocError, Global};
 use wf_flat::{Flat, Life};
 use wf_gen::make_files;
 use wf_outside::{MemShelf, Memory, Text};
 use wf_run::{Ran, fetch_run};
 use wf_script::{Command, Script};
-use wf_status::{SourceRule, Status};
+use wf_source::fault_status;
+use wf_status::Status;
 use wf_text::push_decimal;
 use wf_usage::USUAL;
-
-// A rule of sources, as a status names it.
-fn rule_of(rule: AsmRule) -> SourceRule
-    ensures { result ≡ rule_of rule }
-{
-    match rule {
-        AsmRule::Syntax => SourceRule::Syntax,
-        AsmRule::Twice => SourceRule::Twice,
-        AsmRule::Unknown => SourceRule::Unknown,
-        AsmRule::Range => SourceRule::Range,
-    }
-}
-
-// The answer where a source is not assembled.
-fn fault_status(fault: AsmFault) -> Status
-    ensures { result ≡ status_of (Err fault) }
-{
-    match fault {
-        AsmFault::At { line, rule } => Status::Source {
-            rule: rule_of(rule),
-            line,
-        },
-        AsmFault::Memory => Status::Memory,
-    }
-}
 
 // The answer where all that is read lies in memory: a fault of reading is one of memory.
 fn unread(status: Status) -> Status

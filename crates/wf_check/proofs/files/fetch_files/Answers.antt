@@ -9,7 +9,8 @@ use Rattle.wf_patches.specs.Stages.{patches_stage}
 use Rattle.wf_journal.specs.Journals.{JournalValue}
 use Rattle.wf_check.specs.Stages.{CheckedFilesValue, held_stage, journal_stage}
 use Rattle.wf_check.proofs.FileLemmas.{files_held, journal_told, patches_told}
-use Rattle.wf_check.proofs.NeedLemmas.{Rises, counts_more, err_holds, err_shelf, needed_journal, needed_patches, rises_more, some_more}
+use Rattle.wf_patches.proofs.NeedLemmas.{Rises, counts_more, err_holds, err_shelf, rises_more, some_more}
+use Rattle.wf_check.proofs.NeedLemmas.{needed_journal, needed_patches}
 use Rattle.wf_check.proofs.files.fetch_files.Goals as goal
 
 pub returns-in_err-journal-clause-cause : goal.returns-in_err-journal-clause-cause

@@ -10,13 +10,11 @@ end-requires-clause-held c = done_held c.args.flat.now c.args.hart c.args.held c
 pub end-requires-clause-next : goal.end-requires-clause-next
 end-requires-clause-next c = done_next c.args.flat.now c.args.hart c.args.held c.args.next c.requires.done
 
-pub returns-clause-made : goal.returns-clause-made
-returns-clause-made c = λ s before b.
-    end_made s c.args.flat.now c.end.new.self before c.args.journal.now.items c.append.new.journal.items c.args.hart c.args.held c.args.next b c.requires.acts.no_one c.requires.done c.end.ensures.state
-    (c.append.ensures.items ∙ ap (λ (a : ArchState). c.args.journal.now.items ++ entry c.args.hart (End a.pc) ∷ []) c.next.view_is)
-
-pub returns-clause-rests : goal.returns-clause-rests
-returns-clause-rests c = end_rests c.args.flat.now c.end.new.self c.args.hart c.args.next.pc c.args.held c.args.next c.requires.acts c.requires.done c.end.ensures.state c.end.ensures.ordered
-
-pub returns-clause-harts : goal.returns-clause-harts
-returns-clause-harts c = end_harts c.args.flat.now c.end.new.self c.args.hart c.args.next.pc c.args.held c.args.next c.requires.acts c.requires.done c.end.ensures.state
+pub returns : goal.returns
+returns c =
+    record {
+      made = λ s before b. end_made s c.args.flat.now c.end.new.self before c.args.journal.now.items c.append.new.journal.items c.args.hart c.args.held c.args.next b c.requires.acts.no_one c.requires.done c.end.ensures.state
+          (c.append.ensures.items ∙ ap (λ (a : ArchState). c.args.journal.now.items ++ entry c.args.hart (End a.pc) ∷ []) c.next.view_is);
+      rests = end_rests c.args.flat.now c.end.new.self c.args.hart c.args.next.pc c.args.held c.args.next c.requires.acts c.requires.done c.end.ensures.state c.end.ensures.ordered;
+      harts = end_harts c.args.flat.now c.end.new.self c.args.hart c.args.next.pc c.args.held c.args.next c.requires.acts c.requires.done c.end.ensures.state;
+    }

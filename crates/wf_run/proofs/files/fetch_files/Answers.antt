@@ -9,7 +9,8 @@ use Rattle.wf_patches.specs.Stages.{patches_stage}
 use Rattle.wf_script.specs.Commands.{ScriptValue}
 use Rattle.wf_run.specs.Stages.{RunFilesValue, held_stage, script_stage}
 use Rattle.wf_run.proofs.FileLemmas.{files_held, patches_told, script_told}
-use Rattle.wf_run.proofs.NeedLemmas.{Rises, counts_more, err_holds, err_shelf, needed_patches, needed_script, rises_more, some_more}
+use Rattle.wf_patches.proofs.NeedLemmas.{Rises, counts_more, err_holds, err_shelf, rises_more, some_more}
+use Rattle.wf_run.proofs.NeedLemmas.{needed_patches, needed_script}
 use Rattle.wf_run.proofs.files.fetch_files.Goals as goal
 
 pub returns-in_err-script-clause-cause : goal.returns-in_err-script-clause-cause

@@ -6,9 +6,9 @@ use Rattle.wf_tables.proofs.listing.push_lowers.Goals as goal
 pub loop-i-init : goal.loop-i-init
 loop-i-init c = λ homes is.
     sym (append-nil c.args.out.now.items)
-    ∙ ap (λ (ns : List ℕ). c.args.out.now.items ++ ns) (sym (uppers_none homes c.args.flat.now c.args.generation 0 c.args.prefix c.args.frame))
+    ∙ ap (λ (ns : List ℕ). c.args.out.now.items ++ ns) (sym (uppers_none homes c.args.flat.now c.args.node.generation 0 c.args.node.prefix c.args.node.frame))
 
 pub loop-i-preserved : goal.loop-i-preserved
 loop-i-preserved c = λ homes is.
-    uppers_more homes c.args.flat.now c.args.generation 0 c.args.prefix c.args.frame c.loop-i.i c.args.out.now.items c.loop-i.out.items c.push_lower.new.out.items
+    uppers_more homes c.args.flat.now c.args.node.generation 0 c.args.node.prefix c.args.node.frame c.loop-i.i c.args.out.now.items c.loop-i.out.items c.push_lower.new.out.items
     (c.loop-i.invariant homes is) (c.in_ok-push_lower.ensures homes is)

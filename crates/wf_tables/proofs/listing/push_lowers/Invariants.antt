@@ -6,4 +6,4 @@ use Rattle.wf_tables.proofs.listing.push_lowers.Given as goal
 
 abbrev pub invariant-loop-i : goal.invariant-loop-i
 invariant-loop-i l =
-    (homes : Homes) → IsIndex l.index homes.homes → l.out.items ≡ l.fn.out.items ++ uppers_listed homes l.flat l.generation 0 l.prefix l.frame l.i
+    (homes : Homes) → IsIndex l.index homes.homes → l.out.items ≡ l.fn.out.items ++ uppers_listed homes l.flat l.node.generation 0 l.node.prefix l.node.frame l.i

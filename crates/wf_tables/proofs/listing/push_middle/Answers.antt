@@ -6,10 +6,10 @@ use Rattle.wf_tables.proofs.listing.push_middle.Goals as goal
 
 pub returns-in_ok-push_lowers : goal.returns-in_ok-push_lowers
 returns-in_ok-push_lowers c = λ homes is.
-    below_some homes c.args.flat.now c.args.generation 1 c.args.prefix c.args.frame c.args.prefix c.in-Some.node c.home_of-home.result c.args.out.now.items c.push_word.new.out.items c.push_lowers.new.out.items
+    below_some homes c.args.flat.now c.args.generation 1 c.args.prefix c.args.frame c.args.prefix c.in-Some.lower c.home_of-home.result c.args.out.now.items c.push_word.new.out.items c.push_lowers.new.out.items
     (c.home_of-home.ensures ∙ is (Node c.args.generation 1 c.args.prefix)) c.in-Some.is
     (c.in_ok-push_word.ensures ∙ ap (λ (word : ℕ). c.args.out.now.items ++ word_listed 2 c.args.frame c.args.prefix word) c.pointer_to.ensures)
-    (c.in_ok-push_lowers.ensures homes is ∙ ap (λ (ns : List ℕ). c.push_word.new.out.items ++ ns) (uppers_all homes c.args.flat.now c.args.generation 0 c.args.prefix c.in-Some.node))
+    (c.in_ok-push_lowers.ensures homes is ∙ ap (λ (ns : List ℕ). c.push_word.new.out.items ++ ns) (uppers_all homes c.args.flat.now c.args.generation 0 c.args.prefix c.in-Some.lower))
 
 pub returns-in_default : goal.returns-in_default
 returns-in_default c = λ homes is.

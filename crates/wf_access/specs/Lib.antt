@@ -1,0 +1,4 @@
+pub mod Stores
+pub mod Reserved
+pub mod Wholes
+pub mod Laws

@@ -1,0 +1,9 @@
+mod WriteLemmas
+mod TakenLemmas
+mod EntryLemmas
+mod HousedLemmas
+mod PieceLemmas
+mod NodeLemmas
+mod ViewLemmas
+mod StandLemmas
+mod MayLemmas

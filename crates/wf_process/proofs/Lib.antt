@@ -1,0 +1,11 @@
+pub mod BodyLemmas
+pub mod ProcessLemmas
+pub mod EventLemmas
+pub mod ImageLemmas
+pub mod StartLemmas
+pub mod MappedLemmas
+pub mod ViewLemmas
+pub mod FindLemmas
+pub mod ApartLemmas
+pub mod MeetingLemmas
+pub mod StopLemmas

@@ -1,0 +1,26 @@
+use Rattle.wf_flat.specs.declared.event.Actor.TheVariants.{Hart}
+use Rattle.wf_flat.specs.declared.event.Event.TheVariants.{Fetch}
+use Rattle.wf_flat.proofs.ChangeLemmas.{hart_there}
+use Rattle.wf_legal.specs.Legal.{Moment, end_of}
+use Rattle.wf_process.specs.Processes.{start_of}
+use Rattle.wf_process.proofs.EventLemmas.{fetches}
+use Rattle.wf_process.proofs.ProcessLemmas.{entry_comes, entry_kept, is_there}
+use Rattle.wf_process.proofs.process.Process.fetch.Goals as goal
+
+pub fetch-requires : goal.fetch-requires
+fetch-requires c =
+    let start : Moment = start_of c.self.inside.deltas.items c.self.inside.image c.self.inside.count c.self.inside.limits in
+    let m : Moment = end_of start c.self.inside.entries.items in
+    is_there start c.self.inside.entries c.args.self.now c.self.inside.body c.args.hart (Fetch c.args.pc c.args.word) c.self.view_is c.self.invariant (λ may. hart_there m.flat c.args.hart _ may) c.requires.may
+
+pub invariant_of-self : goal.invariant_of-self
+invariant_of-self c =
+    let start : Moment = start_of c.self.inside.deltas.items c.self.inside.image c.self.inside.count c.self.inside.limits in
+    let m : Moment = end_of start c.self.inside.entries.items in
+    entry_kept start c.self.inside.entries c.note.new.entries (Hart c.args.hart) (Fetch c.args.pc c.args.word) c.args.self.now c.self.view_is c.note.ensures c.self.inside.body c.fetch.new.self _ c.self.invariant c.requires.may
+    c.fetch.ensures (fetches m c.self.inside.body c.self.invariant.stands c.args.hart c.args.pc c.args.word)
+
+pub returns : goal.returns
+returns c =
+    let start : Moment = start_of c.self.inside.deltas.items c.self.inside.image c.self.inside.count c.self.inside.limits in
+    entry_comes start c.self.inside.entries c.note.new.entries (Hart c.args.hart) (Fetch c.args.pc c.args.word) c.args.self.now c.self.view_is c.note.ensures

@@ -1,0 +1,25 @@
+use Rattle.wf_flat.specs.declared.event.Actor.TheVariants.{Hart}
+use Rattle.wf_flat.specs.declared.event.Event.TheVariants.{Out}
+use Rattle.wf_legal.specs.Legal.{Moment, end_of}
+use Rattle.wf_process.specs.Processes.{start_of}
+use Rattle.wf_process.proofs.EventLemmas.{outs}
+use Rattle.wf_process.proofs.ProcessLemmas.{entry_comes, entry_kept, is_there}
+use Rattle.wf_process.proofs.process.Process.put_byte.Goals as goal
+
+pub answer-requires : goal.answer-requires
+answer-requires c =
+    let start : Moment = start_of c.self.inside.deltas.items c.self.inside.image c.self.inside.count c.self.inside.limits in
+    let m : Moment = end_of start c.self.inside.entries.items in
+    is_there start c.self.inside.entries c.args.self.now c.self.inside.body c.args.hart (Out c.args.byte) c.self.view_is c.self.invariant (λ may. absurd may) c.requires.may
+
+pub invariant_of-self : goal.invariant_of-self
+invariant_of-self c =
+    let start : Moment = start_of c.self.inside.deltas.items c.self.inside.image c.self.inside.count c.self.inside.limits in
+    let m : Moment = end_of start c.self.inside.entries.items in
+    entry_kept start c.self.inside.entries c.note.new.entries (Hart c.args.hart) (Out c.args.byte) c.args.self.now c.self.view_is c.note.ensures c.self.inside.body c.answer.new.self _ c.self.invariant c.requires.may
+    c.answer.ensures (outs m c.self.inside.body c.self.invariant.stands c.args.hart c.args.byte)
+
+pub returns : goal.returns
+returns c =
+    let start : Moment = start_of c.self.inside.deltas.items c.self.inside.image c.self.inside.count c.self.inside.limits in
+    entry_comes start c.self.inside.entries c.note.new.entries (Hart c.args.hart) (Out c.args.byte) c.args.self.now c.self.view_is c.note.ensures

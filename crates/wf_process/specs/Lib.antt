@@ -1,0 +1,5 @@
+pub mod Harts
+pub mod Bodies
+pub mod Processes
+pub mod Finding
+pub mod Meeting

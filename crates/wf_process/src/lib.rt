@@ -1,0 +1,17 @@
+//! A simulated process over words: what it is now, and its journal.
+#![tactic(auto)]
+
+mod body;
+mod booting;
+mod events;
+mod finding;
+mod hart;
+mod meeting;
+mod process;
+mod reading;
+mod wholeness;
+
+pub use body::Body;
+pub use finding::Found;
+pub use hart::KeptHart;
+pub use process::Process;

@@ -1,0 +1,15 @@
+pub mod ViewLemmas
+pub mod KeepLemmas
+pub mod FindLemmas
+pub mod EndLemmas
+pub mod GivenLemmas
+pub mod OwnLemmas
+pub mod AgainLemmas
+pub mod HartLemmas
+pub mod MoveLemmas
+pub mod RoomLemmas
+pub mod EndViewLemmas
+pub mod DeadLemmas
+pub mod AgreeLemmas
+pub mod NewestLemmas
+pub mod CarryLemmas

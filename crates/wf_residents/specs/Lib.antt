@@ -1,0 +1,4 @@
+pub mod Refusals
+pub mod Plans
+pub mod Carried
+pub mod Laws

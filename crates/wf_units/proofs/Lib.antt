@@ -1,0 +1,13 @@
+pub mod RefusalLemmas
+pub mod CallLemmas
+pub mod EndLemmas
+pub mod RequestLemmas
+pub mod KernelLemmas
+pub mod TryLemmas
+pub mod PlainLemmas
+pub mod AskLemmas
+pub mod RestLemmas
+pub mod AccessLemmas
+pub mod WriteLemmas
+pub mod AgreeLemmas
+pub mod WholeLemmas

@@ -1,0 +1,5 @@
+use Rattle.wf_units.proofs.KernelLemmas.{deletion_call}
+use Rattle.wf_units.proofs.requests.deletions_are_calls.Goals as goal
+
+pub returns : goal.returns
+returns c = deletion_call c.entries_keep_sound.ensures c.journals_keep_sound.ensures c.allowed_can_be_made.ensures
