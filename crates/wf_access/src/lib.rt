@@ -19,3 +19,4 @@ pub use laws::{
 };
 pub use reserving::{reservation_stands, reserve};
 pub use storing::{store, swap};
+pub use words::load_fields;

@@ -8,8 +8,8 @@ use crate::words::load_fields;
 use wf_frames::Words;
 use wf_homes::CoreReservation;
 
-/// What a load-reserved of `width` bytes at an address leaves, whose page lies in this frame; `None`
-/// at the last count of writes.
+/// What a load-reserved of `width` bytes at an address leaves, whose page lies in this frame;
+/// `None` at the last count of writes.
 pub fn reserve(
     words: &Words,
     frame: u32,

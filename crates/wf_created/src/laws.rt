@@ -1,8 +1,8 @@
 //! Laws of births that are carried out.
 ghost use Rattle.wf_created.specs.Created.{BirthRoomIsMade, BirthsCanBeCarriedOut, BirthsMayBe, CreateStands};
 
-/// A birth that may be: where its changes are made and its pieces performed, words and records stand
-/// for the state in which the generation is born.
+/// A birth that may be: where its changes are made and its pieces performed, words and records
+/// stand for the state in which the generation is born.
 pub fn create_stands()
     ensures { CreateStands }
 {}

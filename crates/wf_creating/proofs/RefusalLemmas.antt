@@ -21,10 +21,10 @@ use Rattle.wf_creating.proofs.LaidLemmas.{need_born}
 use Rattle.wf_creating.proofs.ParentLemmas.{as_many_born, view_there}
 
 module _ (words : WordsValue) (r : Records) (homes : Homes) (s : FlatState) (parent : ℕ) (o : StandsInOrder words r homes s) where
-  no_view_same : no_view_in r parent ≡ no_view s parent
+  pub no_view_same : no_view_in r parent ≡ no_view s parent
   no_view_same = ap (λ (b : Bool). let some : Option Refusal = if b then None else Some (NoView parent) in some) (view_there words r homes s o parent)
 
-  views_same : views_in r ≡ no_more_views s
+  pub views_same : views_in r ≡ no_more_views s
   views_same = ap (λ (k : ℕ). let some : Option Refusal = if nat_lt k 1024 then None else Some Views in some) (as_many_born words r homes s o)
 
   pub frames_same : is_live s parent ≡ true → no_frames_at_birth r parent ≡ no_frames s (born_of_parent s parent)

@@ -24,8 +24,8 @@ pub struct Birth {
     pub view: View,
 }
 
-// The number of the generation that is born next.
-fn number_of_birth(records: &Records) -> Result<u32, Memory>
+/// The number of the generation that is born next.
+pub fn number_of_birth(records: &Records) -> Result<u32, Memory>
     ensures { IfOk result (λ number. number ≡ number_at_birth records.now) }
 {
     match u32::try_from(records.born.as_slice().len()) {
@@ -34,8 +34,8 @@ fn number_of_birth(records: &Records) -> Result<u32, Memory>
     }
 }
 
-// Pages of text of these numbers, in these frames.
-fn place_texts(alloc: Global, numbers: &[u32], frames: &[u32]) -> Result<Vec<TextAt>, Memory>
+/// Pages of text of these numbers, in these frames.
+pub fn place_texts(alloc: Global, numbers: &[u32], frames: &[u32]) -> Result<Vec<TextAt>, Memory>
     ensures { IfOk result (λ text. text.items ≡ texts_placed numbers.now frames.now) }
 {
     let mut text = Vec::new(alloc);
@@ -66,8 +66,8 @@ fn missing_of(
     Ok(missing)
 }
 
-// The nodes of the page table of a generation that reaches these places.
-fn nodes_of_reach(
+/// The nodes of the page table of a generation that reaches these places.
+pub fn nodes_of_reach(
     alloc: Global,
     generation: u32,
     reach: &Numbers,
@@ -98,8 +98,8 @@ fn place_birth(
     Ok((text, nodes))
 }
 
-// The nodes alone, without their generation.
-fn table_of(alloc: Global, nodes: &[NewNode]) -> Result<Vec<NodeAt>, Memory>
+/// The nodes alone, without their generation.
+pub fn table_of(alloc: Global, nodes: &[NewNode]) -> Result<Vec<NodeAt>, Memory>
     ensures { IfOk result (λ table. table.items ≡ map (λ new. new.node) nodes.now) }
 {
     let mut table = Vec::new(alloc);
@@ -109,8 +109,8 @@ fn table_of(alloc: Global, nodes: &[NewNode]) -> Result<Vec<NodeAt>, Memory>
     Ok(table)
 }
 
-// The frame of the first of these nodes.
-fn root_of(nodes: &[NewNode]) -> u32
+/// The frame of the first of these nodes.
+pub fn root_of(nodes: &[NewNode]) -> u32
     ensures { result ≡ births.root_of nodes.now }
 {
     match nodes.first() {

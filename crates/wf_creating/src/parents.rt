@@ -14,7 +14,7 @@ use wf_outside::{Jump, Memory};
 use wf_views::{Numbers, Records, TextAt};
 
 /// The pages of text of a generation that lives.
-pub(crate) fn parent_text(records: &Records, parent: u32) -> &[TextAt]
+pub fn parent_text(records: &Records, parent: u32) -> &[TextAt]
     ensures { result.now ≡ parents.parent_text records.now parent }
 {
     match records.views.find(parent) {
@@ -24,7 +24,7 @@ pub(crate) fn parent_text(records: &Records, parent: u32) -> &[TextAt]
 }
 
 /// The jumps in the text of a generation that lives.
-pub(crate) fn parent_jumps(records: &Records, parent: u32) -> &[Jump]
+pub fn parent_jumps(records: &Records, parent: u32) -> &[Jump]
     ensures { result.now ≡ parents.parent_jumps records.now parent }
 {
     match records.views.find(parent) {
@@ -34,7 +34,7 @@ pub(crate) fn parent_jumps(records: &Records, parent: u32) -> &[Jump]
 }
 
 /// How many patches of the script a generation has that lives.
-pub(crate) fn parent_patches(records: &Records, parent: u32) -> u32
+pub fn parent_patches(records: &Records, parent: u32) -> u32
     ensures { result ≡ parents.parent_patches records.now parent }
 {
     match records.views.find(parent) {
@@ -44,7 +44,7 @@ pub(crate) fn parent_patches(records: &Records, parent: u32) -> u32
 }
 
 /// The numbers of pages of text.
-pub(crate) fn text_numbers(alloc: Global, text: &[TextAt]) -> Result<Vec<u32>, Memory>
+pub fn text_numbers(alloc: Global, text: &[TextAt]) -> Result<Vec<u32>, Memory>
     ensures { IfOk result (λ numbers. numbers.items ≡ map text_page text.now) }
 {
     let mut numbers = Vec::new(alloc);
@@ -54,8 +54,8 @@ pub(crate) fn text_numbers(alloc: Global, text: &[TextAt]) -> Result<Vec<u32>, M
     Ok(numbers)
 }
 
-// The numbers of the pages of data that are here.
-fn numbers_here(alloc: Global, records: &Records) -> Result<Vec<u32>, Memory>
+/// The numbers of the pages of data that are here.
+pub fn numbers_here(alloc: Global, records: &Records) -> Result<Vec<u32>, Memory>
     ensures { IfOk result (λ numbers. numbers.items ≡ parents.numbers_here records.now) }
 {
     let mut numbers = Vec::new(alloc);
@@ -67,8 +67,8 @@ fn numbers_here(alloc: Global, records: &Records) -> Result<Vec<u32>, Memory>
     Ok(numbers)
 }
 
-// The places of pages of text, and of pages of data that are here.
-fn places_of(alloc: Global, text: &[u32], here: &[u32]) -> Result<Vec<u32>, Memory>
+/// The places of pages of text, and of pages of data that are here.
+pub fn places_of(alloc: Global, text: &[u32], here: &[u32]) -> Result<Vec<u32>, Memory>
     ensures places { IfOk result
         (λ places. places.items ≡ places_with (places_with [] text.now) here.now) }
     ensures rising { IfOk result (λ places. IsRising places.items) }
@@ -79,8 +79,8 @@ fn places_of(alloc: Global, text: &[u32], here: &[u32]) -> Result<Vec<u32>, Memo
     Ok(places)
 }
 
-// The same numbers, which rise, without room for more.
-fn as_numbers(alloc: Global, rising: &[u32]) -> Result<Numbers, Memory>
+/// The same numbers, which rise, without room for more.
+pub fn as_numbers(alloc: Global, rising: &[u32]) -> Result<Numbers, Memory>
     requires { IsRising rising.now }
     ensures { IfOk result (λ numbers. numbers ≡ full rising.now) }
 {

@@ -59,8 +59,8 @@ fn room_for_birth(alloc: Global, birth: Birth) -> Result<BirthRoom, Memory>
     })
 }
 
-/// What is made for a birth before its plan, and room for it in the records. It takes all the memory
-/// of the birth, and changes nothing else.
+/// What is made for a birth before its plan, and room for it in the records. It takes all the
+/// memory of the birth, and changes nothing else.
 ///
 /// # Errors
 ///

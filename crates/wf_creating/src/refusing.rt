@@ -9,15 +9,15 @@ use wf_outside::Refusal;
 use wf_verdict::MOST_GENERATIONS;
 use wf_views::Records;
 
-// Whether there is a view of a generation.
-fn has_view(records: &Records, generation: u32) -> bool
+/// Whether there is a view of a generation.
+pub fn has_view(records: &Records, generation: u32) -> bool
     ensures { result ≡ is_some (view_of records.now.views generation) }
 {
     records.views.find(generation).is_some()
 }
 
-// Views, where as many generations were born as may be.
-fn no_more_views(records: &Records) -> Option<Refusal>
+/// Views, where as many generations were born as may be.
+pub fn no_more_views(records: &Records) -> Option<Refusal>
     ensures { result ≡ views_in records.now }
 {
     if (records.born.as_slice().len() as u64) < MOST_GENERATIONS {

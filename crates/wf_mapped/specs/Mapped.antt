@@ -43,8 +43,8 @@ pub record HaveMetPages (s : FlatState) : Type 0 where
       (λ pair. IsSomeAnd (data_in s.pages pair.1) (λ page. is_ending page.stage ≡ false)) s.met
   pub low : AllByRecursion (λ page. page.number < ADDRESS_PAGES) s.pages
 
--- In a state maps can be asked for: its tables stand in order, no unmap is in hand, what was met are
--- pages that stay, and incarnations fit a frame word.
+-- In a state maps can be asked for: its tables stand in order, no unmap is in hand, what was met
+-- are pages that stay, and incarnations fit a frame word.
 pub record TakesMaps (s : FlatState) : Type 0 where
   pub tidy : IsTidy s
   pub none_going : NoneGoing s

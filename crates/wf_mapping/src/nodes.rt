@@ -63,7 +63,7 @@ pub fn tree_of(alloc: Global, reach: &[u32]) -> Result<Vec<(u8, u32)>, Memory>
 }
 
 /// The nodes of a page table that has leaves for these pages alone.
-pub(crate) fn nodes_for_pages(alloc: Global, numbers: &[u32]) -> Result<Vec<(u8, u32)>, Memory>
+pub fn nodes_for_pages(alloc: Global, numbers: &[u32]) -> Result<Vec<(u8, u32)>, Memory>
     ensures { IfOk result (λ nodes. nodes.items ≡ nodes_for numbers.now) }
 {
     let mut places = Vec::new(alloc);
@@ -135,7 +135,7 @@ fn push_missing(
 
 /// Those of these nodes that views have not, view by view. It takes one pass over the nodes of each
 /// view for each of these.
-pub(crate) fn missing_nodes(
+pub fn missing_nodes(
     alloc: Global,
     records: &Records,
     nodes: &[(u8, u32)],

@@ -56,8 +56,9 @@ fn is_text(records: &Records, page: u32) -> bool
     false
 }
 
-// Whether a page is here, or text of a generation that lives.
-fn overlaps(records: &Records, page: u32) -> bool
+/// Whether a page is here, or text of a generation that lives. It takes one pass over the text of all
+/// views.
+pub fn overlaps(records: &Records, page: u32) -> bool
     ensures { result ≡ (is_here_at records.now page || is_text_at records.now page) }
 {
     is_here(records, page) || is_text(records, page)
@@ -79,8 +80,8 @@ fn first_overlap(records: &Records, first: u32, pages: u64) -> Option<u32>
     None
 }
 
-// Whether a page of data is ending.
-fn is_ending(records: &Records, page: u32) -> bool
+/// Whether a page of data is ending.
+pub fn is_ending(records: &Records, page: u32) -> bool
     ensures { result ≡ is_ending_at records.now page }
 {
     match records.pages.find(page) {

@@ -22,7 +22,7 @@ use Rattle.wf_process.specs.declared.hart.KeptHart.{KeptHart}
 use Rattle.wf_process.specs.Bodies.{AreKeptHarts, BodyValue, IsBodyOf, IsKeptHart}
 
 -- where another changes
-changed_other : {A : Type 0} (f : A → A) (xs : List A) (h i : ℕ) → i ≢ h → slice_get (changed_at xs h f) i ≡ slice_get xs i
+pub changed_other : {A : Type 0} (f : A → A) (xs : List A) (h i : ℕ) → i ≢ h → slice_get (changed_at xs h f) i ≡ slice_get xs i
 changed_other f [] h i apart = refl
 changed_other f (x ∷ xs) zero zero apart = absurd (apart refl)
 changed_other f (x ∷ xs) zero (suc i) apart = refl
@@ -35,10 +35,10 @@ pub record WasChanged {A : Type 0} (o : Option A) (f : A → A) (y : A) : Type 0
   pub there : o ≡ Some before
   pub is : y ≡ f before
 
-from_some : {A : Type 0} (x y : A) → Some x ≡ Some y → x ≡ y
+pub from_some : {A : Type 0} (x y : A) → Some x ≡ Some y → x ≡ y
 from_some x y e = cc
 
-changed_from : {A : Type 0} (o : Option A) (f : A → A) (y : A) → option_map f o ≡ Some y → WasChanged o f y
+pub changed_from : {A : Type 0} (o : Option A) (f : A → A) (y : A) → option_map f o ≡ Some y → WasChanged o f y
 changed_from None f y e = absurd cc
 changed_from (Some x) f y e = record { before = x; there = refl; is = sym (from_some (f x) y e) }
 

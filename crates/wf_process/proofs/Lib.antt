@@ -9,3 +9,7 @@ pub mod FindLemmas
 pub mod ApartLemmas
 pub mod MeetingLemmas
 pub mod StopLemmas
+pub mod OutsideLemmas
+pub mod WholeLemmas
+pub mod WritingLemmas
+pub mod EntriesLemmas

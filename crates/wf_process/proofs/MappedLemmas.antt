@@ -14,7 +14,7 @@ use Rattle.wf_space.proofs.MeetLemmas.{found_each}
 use Rattle.wf_translation.specs.Translations.{IsMapped}
 
 -- the number of a page that is found
-number_is : (pages : List PageState) (n : ℕ) (page : PageState) → data_in pages n ≡ Some page → page.number ≡ n
+pub number_is : (pages : List PageState) (n : ℕ) (page : PageState) → data_in pages n ≡ Some page → page.number ≡ n
 number_is [] n page e = absurd cc
 number_is (x ∷ xs) n page e = elim (true_or_false (x.number == n)) [
   | inl t ↦ (

@@ -89,7 +89,7 @@ was_mapped [] f i y e = absurd cc
 was_mapped (x ∷ xs) f zero y e = record { before = x; there = refl; changes = true; is = sym (from_some (f x) y e) }
 was_mapped (x ∷ xs) f (suc i) y e = let w = was_mapped xs f i y e in record { before = w.before; there = w.there; changes = w.changes; is = w.is }
 
-was_other : {A : Type 0} (xs : List A) (at : ℕ) (f : A → A) (i : ℕ) (y : A) → slice_get (others_changed xs at f) i ≡ Some y → WasOther xs f i y
+pub was_other : {A : Type 0} (xs : List A) (at : ℕ) (f : A → A) (i : ℕ) (y : A) → slice_get (others_changed xs at f) i ≡ Some y → WasOther xs f i y
 was_other [] at f i y e = absurd cc
 was_other (x ∷ xs) zero f zero y e = record { before = x; there = refl; changes = false; is = sym (from_some x y e) }
 was_other (x ∷ xs) zero f (suc i) y e = let w = was_mapped xs f i y e in record { before = w.before; there = w.there; changes = w.changes; is = w.is }
@@ -100,7 +100,7 @@ length_map : {A : Type 0} (f : A → A) (xs : List A) → length (map f xs) ≡ 
 length_map f [] = refl
 length_map f (x ∷ xs) = ap suc (length_map f xs)
 
-length_others : {A : Type 0} (xs : List A) (at : ℕ) (f : A → A) → length (others_changed xs at f) ≡ length xs
+pub length_others : {A : Type 0} (xs : List A) (at : ℕ) (f : A → A) → length (others_changed xs at f) ≡ length xs
 length_others [] at f = refl
 length_others (x ∷ xs) zero f = ap suc (length_map f xs)
 length_others (x ∷ xs) (suc at) f = ap suc (length_others xs at f)
@@ -110,7 +110,7 @@ pub record IsSame (k : KeptHart) (x y : HartState) : Type 0 where
   pub told : IsTold k x → IsTold k y
   pub reservation : y.reservation ≡ x.reservation
 
-same_noted : (k : KeptHart) (page : ℕ) (x : HartState) → IsSame k x (noted page x)
+pub same_noted : (k : KeptHart) (page : ℕ) (x : HartState) → IsSame k x (noted page x)
 same_noted k page x = by_try (is_some x.fetched)
   where
     by_try : (b : Bool) → IsSame k x (if b then record x { moved = with_number page x.moved } else x)

@@ -71,7 +71,7 @@ has_view start entries b h k kept runs at =
     subst (λ (n : ℕ). IsSome (view_of b.records.views n)) (sym g) (view_there b.words b.records kept.stands.homes s hart.0.generation kept.stands.stands lives)
 
 module _ (start : Moment) (old new : RoomyValue Entry) (actor : Actor) (event : Event) (p : ProcessValue) (is : process_from start old ≡ p) (more : new ≡ pushed (entry_of actor event) old) where
-  reached : end_of start new.items ≡ after (end_of start old.items) actor event
+  pub reached : end_of start new.items ≡ after (end_of start old.items) actor event
   reached = ap (λ (l : RoomyValue Entry). end_of start l.items) more ∙ end_of-append start old.items (entry_of actor event ∷ [])
 
   -- what it is then

@@ -1,12 +1,13 @@
 -- What entries make of a hart as a process keeps it.
-use Rattle.std.specs.Prelude.{ℕ, zero, suc, List, [], ◌∷◌, ◌++◌, Some, None, false}
+use Rattle.std.specs.Prelude.{ℕ, zero, suc, List, [], ◌∷◌, ◌++◌, Bool, Some, None, true, false, if◌then◌else◌}
 use Rattle.rv_inst.specs.Arch.{ArchState}
 use Rattle.wf_flat.specs.Boot.{boot_arch}
 use Rattle.wf_flat.specs.declared.state.Life.{Life}
 use Rattle.wf_flat.specs.declared.state.Life.TheVariants.{Running}
 use Rattle.wf_process.specs.declared.hart.KeptHart.{KeptHart}
 
--- a hart at the start of a run: in generation 0, with these registers, in no try, with no reservation
+-- a hart at the start of a run: in generation 0, with these registers, in no try, with no
+-- reservation
 abbrev pub kept_first : ArchState → KeptHart
 kept_first arch =
     record {
@@ -47,3 +48,15 @@ kept_answered answer kept = record kept { looked = Some answer }
 -- a store-conditional misses: its answer is 1, and no reservation is left
 abbrev pub kept_missed : KeptHart → KeptHart
 kept_missed kept = record kept { looked = Some 1; reservation = None }
+
+-- a write is made, with this answer, and its try ends, with these registers; a store-conditional
+-- leaves no reservation
+abbrev pub kept_written : ℕ → Bool → ArchState → KeptHart → KeptHart
+kept_written answer conditional next kept =
+    record kept {
+      arch = next;
+      fetched = None;
+      looked = Some answer;
+      put = true;
+      reservation = if conditional then None else kept.reservation;
+    }

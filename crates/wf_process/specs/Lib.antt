@@ -3,3 +3,4 @@ pub mod Bodies
 pub mod Processes
 pub mod Finding
 pub mod Meeting
+pub mod Writing

@@ -12,8 +12,8 @@ use Rattle.wf_legal.specs.Legal.{IsLegal, Moment, after, at_rest, end_of}
 use Rattle.wf_sound.specs.Sound.{IsSound}
 use Rattle.wf_process.specs.Bodies.{BodyValue, IsBodyOf}
 
--- a process, without where it lies in memory: the moment at which it stands, what it did so far, and
--- how many more entries come without memory
+-- a process, without where it lies in memory: the moment at which it stands, what it did so far,
+-- and how many more entries come without memory
 pub record ProcessValue : Type 0 where
   pub moment : Moment
   pub entries : List Entry

@@ -8,20 +8,22 @@ ghost use Rattle.wf_process.specs.Bodies.{with_entered, with_kept, with_left, wi
 ghost use Rattle.wf_process.specs.Finding.{FoundIsRight, TextIsRight};
 ghost use Rattle.wf_process.specs.Harts as harts;
 ghost use Rattle.wf_process.specs.Meeting.{CanMeetPage, HasMetPage};
+ghost use Rattle.wf_process.specs.Writing.{DataLiesAt, HasDataAt, HasStoredBytes};
 
 use crate::finding::{found_at, text_number};
-use crate::{Found, KeptHart};
+use crate::{Found, KeptHart, Write};
 use rv_inst::Arch;
 use std::marker::Model;
+use wf_access::{FrameBytes, store};
 use wf_flat::{Actor, Life};
 use wf_frames::Words;
-use wf_outside::Memory;
+use wf_outside::{Memory, PAGE_SIZE};
 use wf_residents::stop_hart;
 use wf_space::{Space, carry_out};
 use wf_translation::fetch;
 
-/// The memory of a process, as words and the records of the kernel; its harts; and the actor that is
-/// inside the kernel.
+/// The memory of a process, as words and the records of the kernel; its harts; and the actor that
+/// is inside the kernel.
 #[derive(Drop)]
 pub struct Body {
     pub words: Words,
@@ -52,8 +54,8 @@ impl Body {
         &self.harts[hart as usize]
     }
 
-    /// The four bytes at an address of a generation's text, by a walk of its table; `None` where its
-    /// page is no text of the generation, which lives.
+    /// The four bytes at an address of a generation's text, by a walk of its table; `None` where
+    /// its page is no text of the generation, which lives.
     pub fn fetch_at(&self, generation: u32, pc: u64) -> Option<u32>
         requires { CanTranslate self.now.words self.now.records generation }
         ensures { FetchIsRight self.now.words self.now.records generation pc result }
@@ -61,7 +63,8 @@ impl Body {
         fetch(&self.words, &self.space.records, generation, pc)
     }
 
-    /// The bytes at an address of a generation that lives, where its page is text of the generation.
+    /// The bytes at an address of a generation that lives, where its page is text of the
+    /// generation.
     pub fn text_number(&self, generation: u32, va: u64, width: u8) -> Option<u64>
         requires can { CanTranslate self.now.words self.now.records generation }
         requires place { IsPlace va width }
@@ -168,8 +171,8 @@ impl Body {
         Ok(())
     }
 
-    /// A hart's try begins with this word, and it enters the kernel; a generation meets a page by this
-    /// call, which leaves the kernel.
+    /// A hart's try begins with this word, and it enters the kernel; a generation meets a page by
+    /// this call, which leaves the kernel.
     ///
     /// # Errors
     ///
@@ -184,7 +187,8 @@ impl Body {
         requires there { hart < length self.old.harts }
         requires page { CanMeetPage self.old generation page }
         ensures met { OnOk result
-            (HasMetPage (with_entered (with_kept self.old hart (harts.kept_fetched word)) hart) self.new
+            (HasMetPage
+            (with_entered (with_kept self.old hart (harts.kept_fetched word)) hart) self.new
             hart generation page) }
         ensures err { OnErr result (self.new ≡ self.old) }
     {
@@ -206,5 +210,44 @@ impl Body {
         self.leave(Actor::Hart(hart));
         let state = &mut self.harts[hart as usize];
         state.stop(life);
+    }
+
+    // The frame in which the page of data lies that a generation finds at an address.
+    fn frame_at(&self, generation: u32, va: u64) -> u32
+        requires { HasDataAt self.now.words self.now.records generation va }
+        ensures { DataLiesAt self.now.words self.now.records generation va result }
+    {
+        let Some(found) = self.found_at(generation, va) else {
+            unreachable!();
+        };
+        found.frame
+    }
+
+    /// Bytes of a page of data, at an address at which a generation finds it, become the low ones
+    /// of a value, and the page was written once more.
+    pub fn write(&mut self, generation: u32, write: Write)
+        requires there { HasDataAt self.old.words self.old.records generation write.va }
+        requires place { IsPlace write.va write.width }
+        ensures { HasStoredBytes self.old self.new generation write }
+    {
+        let last_writes = self.space.records.limits.last_writes;
+        let bytes = FrameBytes {
+            frame: self.frame_at(generation, write.va),
+            at: write.va % PAGE_SIZE,
+            width: write.width,
+        };
+        store(&mut self.words, bytes, write.value, last_writes);
+    }
+
+    /// A hart's write is made, with this answer, and its instruction ends, with these registers; a
+    /// store-conditional leaves no reservation.
+    pub fn end_write(&mut self, hart: u8, answer: u64, conditional: bool, next: Arch)
+        requires { hart < length self.old.harts }
+        ensures { self.new
+            ≡ with_left_kept self.old hart (harts.kept_written answer conditional next) }
+    {
+        self.leave(Actor::Hart(hart));
+        let state = &mut self.harts[hart as usize];
+        state.end_write(answer, conditional, next);
     }
 }

@@ -62,8 +62,8 @@ impl Process {
         note(&mut self.entries, Actor::Hart(hart), Event::Miss { va });
     }
 
-    /// A hart's instruction or call ends, with these registers after it; it holds no page, and leaves the
-    /// kernel, if it is inside.
+    /// A hart's instruction or call ends, with these registers after it; it holds no page, and
+    /// leaves the kernel, if it is inside.
     pub fn end(&mut self, hart: u8, next: Arch)
         requires room { 0 < self.old.room }
         requires may { Allows self.old.moment (Actor.Hart hart) (Event.End next.pc) }

@@ -6,8 +6,8 @@ use rv_inst::Arch;
 use wf_flat::Life;
 use wf_homes::CoreReservation;
 
-/// A hart: its generation and registers; in a try the word that it fetched, the answer of its access
-/// or call, and whether its write was made; its reservation; and whether it runs.
+/// A hart: its generation and registers; in a try the word that it fetched, the answer of its
+/// access or call, and whether its write was made; its reservation; and whether it runs.
 #[derive(Drop)]
 pub struct KeptHart {
     pub generation: u32,
@@ -65,5 +65,19 @@ impl KeptHart {
     {
         self.looked = Some(1);
         self.reservation = None;
+    }
+
+    /// Its write is made, with this answer, and the try ends, with these registers; a
+    /// store-conditional leaves no reservation.
+    pub fn end_write(&mut self, answer: u64, conditional: bool, next: Arch)
+        ensures { self.new ≡ harts.kept_written answer conditional next self.old }
+    {
+        self.arch = next;
+        self.fetched = None;
+        self.looked = Some(answer);
+        self.put = true;
+        if conditional {
+            self.reservation = None;
+        }
     }
 }

@@ -10,8 +10,11 @@ mod meeting;
 mod process;
 mod reading;
 mod wholeness;
+mod write;
+mod writing;
 
 pub use body::Body;
 pub use finding::Found;
 pub use hart::KeptHart;
 pub use process::Process;
+pub use write::Write;

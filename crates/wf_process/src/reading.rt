@@ -52,8 +52,8 @@ impl Process {
         self.kept(hart).life
     }
 
-    /// The word at the pc of a hart that runs, by a walk of its generation's table; `None` where the
-    /// page there is no text of the generation.
+    /// The word at the pc of a hart that runs, by a walk of its generation's table; `None` where
+    /// the page there is no text of the generation.
     pub fn text_word(&self, hart: u8) -> Option<u32>
         requires { OfRunning self.now.moment.flat hart (λ state. Unit {0}) }
         ensures { OfHart self.now.moment.flat hart

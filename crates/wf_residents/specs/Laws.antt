@@ -135,8 +135,8 @@ DeadStands =
     × CanBeUsedAgain (with_change r (Dead generation))
     (homes_in homes (generation_dead s generation))
 
--- Where a page of data leaves and its frame is given back, worn where it is in its last incarnation,
--- frames can be used again as before.
+-- Where a page of data leaves and its frame is given back, worn where it is in its last
+-- incarnation, frames can be used again as before.
 abbrev pub LeavesCanBeUsedAgain : Type 0
 LeavesCanBeUsedAgain =
     (r : Records) (homes : Homes) (s : FlatState) (page frame : ℕ) (leaving : PageState)

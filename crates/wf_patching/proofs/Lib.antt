@@ -1,0 +1,2 @@
+pub mod UnfitLemmas
+pub mod PlacedLemmas

@@ -1,0 +1,4 @@
+pub mod Brought
+pub mod Layout
+pub mod Refusals
+pub mod Laws
