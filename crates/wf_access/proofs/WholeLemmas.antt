@@ -27,7 +27,7 @@ use Rattle.wf_homes.specs.Kept.{IsKeptPage, LiesIn, fields_at}
 use Rattle.wf_homes.specs.Stands.{StandsFor}
 use Rattle.wf_homes.proofs.ListLemmas.{true_or_false}
 use Rattle.wf_homes.proofs.PlaceLemmas.{home_low, homes_apart}
-use Rattle.wf_access.specs.Laws.{AnswersStand, HasWholePages, IsAnswer, LastLooksStand, LooksAndMissesAnswer, MayTakeFor, PutsStand, SwapsStand, bytes_at}
+use Rattle.wf_access.specs.Laws.{AnswersStand, PagesAreWhole, IsAnswer, LastLooksStand, LooksAndMissesAnswer, MayTakeFor, PutsStand, SwapsStand, bytes_at}
 use Rattle.wf_access.specs.Stores.{one_more_write, with_store}
 use Rattle.wf_access.specs.Wholes.{whole_put, whole_swap}
 use Rattle.wf_access.proofs.AccessLemmas.{IsOneFrame, KeepsPage, number_of, standing}
@@ -129,7 +129,7 @@ module _ (s : FlatState) (h va : ℕ) (page : PageState) (answer : HartState →
       )) run)
 
 -- the words after a store differ in one frame
-module _ (words : WordsValue) (r : Records) (homes : Homes) (s : FlatState) (h va width value frame : ℕ) (page : PageState) (st : StandsFor words r homes s) (whole : HasWholePages s) (may : MayTakeFor words r s h va frame page) where
+module _ (words : WordsValue) (r : Records) (homes : Homes) (s : FlatState) (h va width value frame : ℕ) (page : PageState) (st : StandsFor words r homes s) (whole : PagesAreWhole s) (may : MayTakeFor words r s h va frame page) where
   abbrev at : ℕ
   at = va % 4096
 

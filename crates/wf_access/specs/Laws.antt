@@ -47,7 +47,7 @@ LooksAgree =
     → AreSameBytes words s generation va width translation
 
 -- pages are whole, and their counts of writes have bits enough
-pub record HasWholePages (s : FlatState) : Type 0 where
+pub record PagesAreWhole (s : FlatState) : Type 0 where
   pub whole : AllByRecursion (λ page. length page.words ≡ PAGE_WORDS) s.pages
   pub counts : s.limits.last_writes ≤ MOST_WRITES
 
@@ -70,7 +70,7 @@ abbrev pub PutsStand : Type 0
 PutsStand =
     (words : WordsValue) (r : Records) (homes : Homes) (s : FlatState)
     (h va width value frame : ℕ) (page : PageState)
-    → StandsFor words r homes s → HasWholePages s → MayTakeFor words r s h va frame page
+    → StandsFor words r homes s → PagesAreWhole s → MayTakeFor words r s h va frame page
     → StandsFor (with_store words (bytes_at frame va width) value s.limits.last_writes) r homes
     (whole_put s h va width value)
 
@@ -79,7 +79,7 @@ abbrev pub SwapsStand : Type 0
 SwapsStand =
     (words : WordsValue) (r : Records) (homes : Homes) (s : FlatState)
     (h va width old new frame : ℕ) (page : PageState)
-    → StandsFor words r homes s → HasWholePages s → MayTakeFor words r s h va frame page
+    → StandsFor words r homes s → PagesAreWhole s → MayTakeFor words r s h va frame page
     → StandsFor (with_store words (bytes_at frame va width) new s.limits.last_writes) r homes
     (whole_swap s h va width old new)
 
@@ -189,7 +189,7 @@ abbrev pub StoresKeepMappings : Type 0
 StoresKeepMappings =
     (words : WordsValue) (r : Records) (homes : Homes) (s : FlatState)
     (h va width value frame : ℕ) (page : PageState)
-    → StandsFor words r homes s → HasWholePages s → MayTakeFor words r s h va frame page
+    → StandsFor words r homes s → PagesAreWhole s → MayTakeFor words r s h va frame page
     → HaveSameMappings words
     (with_store words (bytes_at frame va width) value s.limits.last_writes) s
     (whole_put s h va width value)

@@ -13,3 +13,5 @@ pub mod OutsideLemmas
 pub mod WholeLemmas
 pub mod WritingLemmas
 pub mod EntriesLemmas
+pub mod BirthLemmas
+pub mod ReservingLemmas

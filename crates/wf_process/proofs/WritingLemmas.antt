@@ -16,7 +16,7 @@ use Rattle.wf_flat.proofs.ListLemmas.{and_some}
 use Rattle.wf_homes.specs.Homes.{DataOf, Homes}
 use Rattle.wf_homes.specs.Kept.{KeepsReservation, LiesIn}
 use Rattle.wf_homes.proofs.FoundLemmas.{at_some}
-use Rattle.wf_access.specs.Laws.{HasWholePages, MayTakeFor, bytes_at}
+use Rattle.wf_access.specs.Laws.{PagesAreWhole, MayTakeFor, bytes_at}
 use Rattle.wf_access.specs.Stores.{AreInFrame, with_store}
 use Rattle.wf_access.specs.Wholes.{whole_put, whole_swap}
 use Rattle.wf_access.proofs.MappingLemmas.{stores_keep_mappings}
@@ -54,7 +54,7 @@ module _ (deltas : List DeltaValue) (s : FlatState) (b : BodyValue) (is : IsBody
     free = t.free;
   }
 
-  whole : HasWholePages s
+  whole : PagesAreWhole s
   whole = record { whole = all_more (IsSoundPage s.limits s.births) (λ (page : PageState). length page.words ≡ 512) (λ page of. of.is_page.whole) s.pages sound.pages; counts = sound.limits.all_writes }
 
   abbrev words_with : ℕ → WordsValue

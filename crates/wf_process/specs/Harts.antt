@@ -1,9 +1,10 @@
 -- What entries make of a hart as a process keeps it.
-use Rattle.std.specs.Prelude.{ℕ, zero, suc, List, [], ◌∷◌, ◌++◌, Bool, Some, None, true, false, if◌then◌else◌}
+use Rattle.std.specs.Prelude.{ℕ, zero, suc, List, [], ◌∷◌, ◌++◌, Bool, Option, Some, None, true, false, if◌then◌else◌}
 use Rattle.rv_inst.specs.Arch.{ArchState}
 use Rattle.wf_flat.specs.Boot.{boot_arch}
 use Rattle.wf_flat.specs.declared.state.Life.{Life}
 use Rattle.wf_flat.specs.declared.state.Life.TheVariants.{Running}
+use Rattle.wf_homes.specs.declared.reservation.CoreReservation.{CoreReservation}
 use Rattle.wf_process.specs.declared.hart.KeptHart.{KeptHart}
 
 -- a hart at the start of a run: in generation 0, with these registers, in no try, with no
@@ -60,3 +61,8 @@ kept_written answer conditional next kept =
       put = true;
       reservation = if conditional then None else kept.reservation;
     }
+
+-- a load-reserved has its answer, and leaves this reservation
+abbrev pub kept_reserved : ℕ → Option CoreReservation → KeptHart → KeptHart
+kept_reserved answer reservation kept =
+    record kept { looked = Some answer; reservation = reservation }

@@ -4,3 +4,4 @@ pub mod Processes
 pub mod Finding
 pub mod Meeting
 pub mod Writing
+pub mod Reserving

@@ -8,15 +8,18 @@ ghost use Rattle.wf_process.specs.Bodies.{with_entered, with_kept, with_left, wi
 ghost use Rattle.wf_process.specs.Finding.{FoundIsRight, TextIsRight};
 ghost use Rattle.wf_process.specs.Harts as harts;
 ghost use Rattle.wf_process.specs.Meeting.{CanMeetPage, HasMetPage};
+ghost use Rattle.wf_process.specs.Reserving.{CanFindAt, LeavesReservation};
 ghost use Rattle.wf_process.specs.Writing.{DataLiesAt, HasDataAt, HasStoredBytes};
 
 use crate::finding::{found_at, text_number};
+use crate::reserving::reservation_at;
 use crate::{Found, KeptHart, Write};
 use rv_inst::Arch;
 use std::marker::Model;
 use wf_access::{FrameBytes, store};
 use wf_flat::{Actor, Life};
 use wf_frames::Words;
+use wf_homes::CoreReservation;
 use wf_outside::{Memory, PAGE_SIZE};
 use wf_residents::stop_hart;
 use wf_space::{Space, carry_out};
@@ -249,5 +252,23 @@ impl Body {
         self.leave(Actor::Hart(hart));
         let state = &mut self.harts[hart as usize];
         state.end_write(answer, conditional, next);
+    }
+
+    /// What a load-reserved of a generation leaves at an address: nothing where it finds no page of
+    /// data there, or one at its last count of writes.
+    pub fn reservation_at(&self, generation: u32, va: u64, width: u8) -> Option<CoreReservation>
+        requires { CanFindAt self.now.words self.now.records generation va }
+        ensures { LeavesReservation self.now.words self.now.records generation va width result }
+    {
+        reservation_at(&self.words, &self.space.records, generation, va, width)
+    }
+
+    /// A hart's load-reserved has this answer, and leaves this reservation.
+    pub fn reserve(&mut self, hart: u8, answer: u64, reservation: Option<CoreReservation>)
+        requires { hart < length self.old.harts }
+        ensures { self.new ≡ with_kept self.old hart (harts.kept_reserved answer reservation) }
+    {
+        let state = &mut self.harts[hart as usize];
+        state.reserve(answer, reservation);
     }
 }

@@ -1,5 +1,5 @@
 //! Entries that touch no page: each comes to the journal, and is applied.
-ghost use Rattle.std.specs.Prelude.{◌≡◌, ◌<◌, None, false};
+ghost use Rattle.std.specs.Prelude.{◌≡◌, ◌<◌, None, false, true};
 ghost use Rattle.wf_flat.specs.Changes.{reserves};
 ghost use Rattle.wf_flat.specs.Serving.{held_by};
 ghost use Rattle.wf_flat.specs.Steps.{OfHart, access_in, arch_after, want_in};
@@ -45,6 +45,25 @@ impl Process {
         ensures { self.new ≡ with_entry (Actor.Hart hart) (Event.Look va width value) self.old }
     {
         self.body.answer(hart, value);
+        note(
+            &mut self.entries,
+            Actor::Hart(hart),
+            Event::Look { va, width, value },
+        );
+    }
+
+    /// A hart's load-reserved reads these bytes, and takes no page. It leaves a reservation on a
+    /// page of data below the last count of writes, and else none.
+    pub fn look_reserved(&mut self, hart: u8, va: u64, width: u8, value: u64)
+        requires room { 0 < self.old.room }
+        requires may { Allows self.old.moment (Actor.Hart hart) (Event.Look va width value) }
+        requires reserves { OfHart self.old.moment.flat hart
+            (λ state. reserves (want_in state) ≡ true) }
+        ensures { self.new ≡ with_entry (Actor.Hart hart) (Event.Look va width value) self.old }
+    {
+        let generation = self.body.hart(hart).generation;
+        let reservation = self.body.reservation_at(generation, va, width);
+        self.body.reserve(hart, value, reservation);
         note(
             &mut self.entries,
             Actor::Hart(hart),

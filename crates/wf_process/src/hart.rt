@@ -80,4 +80,12 @@ impl KeptHart {
             self.reservation = None;
         }
     }
+
+    /// Its load-reserved has this answer, and leaves this reservation.
+    pub fn reserve(&mut self, answer: u64, reservation: Option<CoreReservation>)
+        ensures { self.new ≡ harts.kept_reserved answer reservation self.old }
+    {
+        self.looked = Some(answer);
+        self.reservation = reservation;
+    }
 }

@@ -9,6 +9,7 @@ mod hart;
 mod meeting;
 mod process;
 mod reading;
+mod reserving;
 mod wholeness;
 mod write;
 mod writing;

@@ -9,8 +9,8 @@ use wf_outside::{Delta, Image, Limits, Memory};
 use wf_views::Roomy;
 
 /// A simulated process: the patches of its run, the image, the count of harts and the sizes that it
-/// started with; what it consists of now; and its journal. Each method that changes it appends one
-/// entry, for which there is room, and which is allowed.
+/// started with; what it consists of now; and its journal. Each method that changes it appends its
+/// entries, for which there is room, and which are allowed.
 #[derive(Drop)]
 pub struct Process {
     pub(crate) deltas: Vec<Delta>,

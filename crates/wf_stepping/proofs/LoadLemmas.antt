@@ -30,8 +30,8 @@ use Rattle.wf_units.proofs.PlainLemmas.{arch_there, in_try_there, want_there}
 use Rattle.wf_units.specs.Accessing.{TextLoadsAreUnits}
 use Rattle.wf_units.specs.Instructions.{FindsInst}
 use Rattle.wf_stepping.specs.declared.loading.Load.{Load}
-use Rattle.wf_stepping.specs.Stepping.{FindsAt, IsTextLoad, Rests}
-use Rattle.wf_stepping.proofs.UnitLemmas.{Is, UnitHere, both, finds}
+use Rattle.wf_stepping.specs.Stepping.{FindsAt, HasUnit, IsTextLoad, Rests}
+use Rattle.wf_stepping.proofs.UnitLemmas.{Is, both, finds}
 
 -- a load from text, by a hart of a process
 pub record TextLoadBy (p : ProcessValue) (h pc word : ℕ) (load : Load) (next : ArchState) : Type 0 where
@@ -71,11 +71,11 @@ text_load_by p h pc word rests sound found load next told =
     }
 
 module _ (p : ProcessValue) (h pc word : ℕ) (load : Load) (next : ArchState) (by : TextLoadBy p h pc word load next) where
-  pub text_load_here : TextLoadsAreUnits → UnitHere p h (Fetch pc word ∷ event.Look load.va load.width load.value ∷ End next.pc ∷ [])
+  pub text_load_here : TextLoadsAreUnits → HasUnit p h (Fetch pc word ∷ event.Look load.va load.width load.value ∷ End next.pc ∷ [])
   text_load_here law =
-      subst (λ (n : ℕ). UnitHere p h (Fetch n word ∷ event.Look load.va load.width load.value ∷ End next.pc ∷ [])) by.pc_is
-      (subst (λ (a : ArchState). UnitHere p h (Fetch by.hart.arch.pc word ∷ event.Look load.va load.width load.value ∷ End a.pc ∷ [])) (sym by.next_is)
-      (subst (λ (v : ℕ). UnitHere p h (Fetch by.hart.arch.pc word ∷ event.Look load.va load.width v ∷ End (meaning_of by.inst by.hart.arch v).pc ∷ [])) by.value
+      subst (λ (n : ℕ). HasUnit p h (Fetch n word ∷ event.Look load.va load.width load.value ∷ End next.pc ∷ [])) by.pc_is
+      (subst (λ (a : ArchState). HasUnit p h (Fetch by.hart.arch.pc word ∷ event.Look load.va load.width load.value ∷ End a.pc ∷ [])) (sym by.next_is)
+      (subst (λ (v : ℕ). HasUnit p h (Fetch by.hart.arch.pc word ∷ event.Look load.va load.width v ∷ End (meaning_of by.inst by.hart.arch v).pc ∷ [])) by.value
       (record { new = _; unit = law p.moment.deltas p.moment.flat h by.hart word by.inst load.va load.width by.page by.found by.text })))
 
   abbrev fetched : HartState

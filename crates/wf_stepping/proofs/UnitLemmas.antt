@@ -28,9 +28,9 @@ use Rattle.wf_legal.specs.Calls.{Call}
 use Rattle.wf_legal.specs.Legal.{IsLegal, Moment, at_rest, end_of}
 use Rattle.wf_sound.specs.Sound.{IsSound}
 use Rattle.wf_process.specs.Processes.{ProcessValue, with_entries, with_entry}
-use Rattle.wf_units.specs.Instructions.{FindsWord, IdlesAreUnits, IllegalWordsAreUnits, LostFetchesAreUnits, RunsAreUnits, TrapsAreUnits}
+use Rattle.wf_units.specs.Instructions.{access_cause, FaultsAreUnits, FindsWord, IdlesAreUnits, IllegalWordsAreUnits, LostFetchesAreUnits, RunsAreUnits, TrapsAreUnits}
 use Rattle.wf_units.specs.Units.{IsAtRest, IsLegalUnit, entries_by}
-use Rattle.wf_stepping.specs.Stepping.{FindsAt, HasMadeUnit, IsRun, IsTrapOf, Rests}
+use Rattle.wf_stepping.specs.Stepping.{FindsAt, HasMadeUnit, HasUnit, IsFault, IsFaultOf, IsRun, IsTrapOf, Rests}
 
 -- a moment at which no call is open
 pub closed_is : (m : Moment) → m.call ≡ None → at_rest m.deltas m.flat ≡ m
@@ -72,23 +72,18 @@ unit_made p q h events new rests unit is =
 
 -- ---- the units of a hart that has stopped, or that a trap stops
 
--- these events are a unit of a hart of a process
-pub record UnitHere (p : ProcessValue) (h : ℕ) (events : List Event) : Type 0 where
-  pub new : FlatState
-  pub unit : IsLegalUnit p.moment.deltas p.moment.flat h events new
-
-pub idle_here : IdlesAreUnits → (p : ProcessValue) (h : ℕ) → Rests p → IsSound p.moment → OfHart p.moment.flat h (λ hart. hart.life ≢ Running) → UnitHere p h (Idle ∷ [])
+pub idle_here : IdlesAreUnits → (p : ProcessValue) (h : ℕ) → Rests p → IsSound p.moment → OfHart p.moment.flat h (λ hart. hart.life ≢ Running) → HasUnit p h (Idle ∷ [])
 idle_here law p h rests sound stopped =
     let hart = some_and (slice_get p.moment.flat.harts h) (λ (x : HartState). x.life ≢ Running) stopped in
     record { new = p.moment.flat; unit = law p.moment.deltas p.moment.flat h hart.0 (at_rest_there p h hart.0 rests sound hart.1) hart.2 }
 
 pub lost_here : LostFetchesAreUnits → (p : ProcessValue) (h pc : ℕ) → Rests p → IsSound p.moment
     → FindsAt p h pc None
-    → UnitHere p h (Enter ∷ Trap INSTRUCTION_PAGE_FAULT pc ∷ [])
+    → HasUnit p h (Enter ∷ Trap INSTRUCTION_PAGE_FAULT pc ∷ [])
 lost_here law p h pc rests sound none =
     let s : FlatState = p.moment.flat in
     let hart = some_and (slice_get s.harts h) (λ (x : HartState). (x.life ≡ Running) × ((x.arch.pc ≡ pc) × (word_at (generation_text s x.generation) pc ≡ None))) none in
-    subst (λ (n : ℕ). UnitHere p h (Enter ∷ Trap INSTRUCTION_PAGE_FAULT n ∷ [])) hart.2.1.0
+    subst (λ (n : ℕ). HasUnit p h (Enter ∷ Trap INSTRUCTION_PAGE_FAULT n ∷ [])) hart.2.1.0
     (record {
       new = _;
       unit = law p.moment.deltas s h hart.0 (record {
@@ -119,28 +114,39 @@ module _ (p : ProcessValue) (h pc word : ℕ) (rests : Rests p) (sound : IsSound
       by_cases None is so = absurd is
 
   pub trap_here : IllegalWordsAreUnits → TrapsAreUnits → (cause value : ℕ) → OfHart p.moment.flat h (λ hart. IsTrapOf hart.arch word (inst_of word) cause value)
-      → UnitHere p h (Fetch pc word ∷ Enter ∷ Trap cause value ∷ [])
+      → HasUnit p h (Fetch pc word ∷ Enter ∷ Trap cause value ∷ [])
   trap_here illegals traps cause value told =
       let P : HartState → Type 0 = λ hart. IsTrapOf hart.arch word (inst_of word) cause value in
       let hart = some_and (slice_get p.moment.flat.harts h) (λ (x : HartState). Is x × P x) (both P told) in
-      subst (λ (n : ℕ). UnitHere p h (Fetch n word ∷ Enter ∷ Trap cause value ∷ [])) hart.2.0.1.0
+      subst (λ (n : ℕ). HasUnit p h (Fetch n word ∷ Enter ∷ Trap cause value ∷ [])) hart.2.0.1.0
       (by_inst hart.0 hart.1 hart.2.0 (inst_of word) refl hart.2.1)
     where
-      by_inst : (hart : HartState) → slice_get p.moment.flat.harts h ≡ Some hart → Is hart → (o : Option Inst) → inst_of word ≡ o → IsTrapOf hart.arch word o cause value → UnitHere p h (Fetch hart.arch.pc word ∷ Enter ∷ Trap cause value ∷ [])
+      by_inst : (hart : HartState) → slice_get p.moment.flat.harts h ≡ Some hart → Is hart → (o : Option Inst) → inst_of word ≡ o → IsTrapOf hart.arch word o cause value → HasUnit p h (Fetch hart.arch.pc word ∷ Enter ∷ Trap cause value ∷ [])
       by_inst hart e is None none told =
-          subst (λ (k : ℕ). UnitHere p h (Fetch hart.arch.pc word ∷ Enter ∷ Trap k value ∷ [])) (sym told.0)
-          (subst (λ (v : ℕ). UnitHere p h (Fetch hart.arch.pc word ∷ Enter ∷ Trap ILLEGAL_INSTRUCTION v ∷ [])) (sym told.1)
+          subst (λ (k : ℕ). HasUnit p h (Fetch hart.arch.pc word ∷ Enter ∷ Trap k value ∷ [])) (sym told.0)
+          (subst (λ (v : ℕ). HasUnit p h (Fetch hart.arch.pc word ∷ Enter ∷ Trap ILLEGAL_INSTRUCTION v ∷ [])) (sym told.1)
           (record { new = _; unit = illegals p.moment.deltas p.moment.flat h hart word (finds hart e is) none }))
       by_inst hart e is (Some inst) some told =
           record { new = _; unit = traps p.moment.deltas p.moment.flat h hart word inst cause value (record { finds = finds hart e is; is_inst = some; wants = told }) }
 
-  pub run_here : RunsAreUnits → (next : ArchState) → OfHart p.moment.flat h (λ hart. IsRun hart.arch word next) → UnitHere p h (Fetch pc word ∷ End next.pc ∷ [])
+  pub fault_here : FaultsAreUnits → (cause va : ℕ) → OfHart p.moment.flat h (IsFault p.moment.flat word cause va)
+      → HasUnit p h (Fetch pc word ∷ Enter ∷ Trap cause va ∷ [])
+  fault_here faults cause va told =
+      let hart = some_and (slice_get p.moment.flat.harts h) (λ (x : HartState). Is x × IsFault p.moment.flat word cause va x) (both (IsFault p.moment.flat word cause va) told) in
+      let inst = some_and (inst_of word) (λ (i : Inst). IsFaultOf p.moment.flat hart.0 (want_of i hart.0.arch) cause va) hart.2.1 in
+      let f = inst.2 in
+      subst (λ (n : ℕ). HasUnit p h (Fetch n word ∷ Enter ∷ Trap cause va ∷ [])) hart.2.0.1.0
+      (subst (λ (k : ℕ). HasUnit p h (Fetch hart.0.arch.pc word ∷ Enter ∷ Trap k va ∷ [])) (sym f.cause_is)
+      (subst (λ (v : ℕ). HasUnit p h (Fetch hart.0.arch.pc word ∷ Enter ∷ Trap (access_cause f.access) v ∷ [])) (sym f.va_is)
+      (record { new = _; unit = faults p.moment.deltas p.moment.flat h hart.0 word inst.0 (want_of inst.0 hart.0.arch) f.access (record { finds = finds hart.0 hart.1 hart.2.0; is_inst = inst.1; wants = refl }) f.of_want f.kept f.faulty })))
+
+  pub run_here : RunsAreUnits → (next : ArchState) → OfHart p.moment.flat h (λ hart. IsRun hart.arch word next) → HasUnit p h (Fetch pc word ∷ End next.pc ∷ [])
   run_here runs next told =
       let P : HartState → Type 0 = λ hart. IsRun hart.arch word next in
       let hart = some_and (slice_get p.moment.flat.harts h) (λ (x : HartState). Is x × P x) (both P told) in
       let inst = some_and (inst_of word) (λ (i : Inst). (want_of i hart.0.arch ≡ Nothing) × (next ≡ meaning_of i hart.0.arch 0)) hart.2.1 in
-      subst (λ (n : ℕ). UnitHere p h (Fetch n word ∷ End next.pc ∷ [])) hart.2.0.1.0
-      (subst (λ (a : ArchState). UnitHere p h (Fetch hart.0.arch.pc word ∷ End a.pc ∷ [])) (sym inst.2.1)
+      subst (λ (n : ℕ). HasUnit p h (Fetch n word ∷ End next.pc ∷ [])) hart.2.0.1.0
+      (subst (λ (a : ArchState). HasUnit p h (Fetch hart.0.arch.pc word ∷ End a.pc ∷ [])) (sym inst.2.1)
       (record { new = _; unit = runs p.moment.deltas p.moment.flat h hart.0 word inst.0 (record { finds = finds hart.0 hart.1 hart.2.0; is_inst = inst.1; wants = inst.2.0 }) }))
 
   -- what holds of the hart behind its fetch, where such a word was fetched
@@ -173,10 +179,10 @@ module _ (p : ProcessValue) (h pc word : ℕ) (rests : Rests p) (sound : IsSound
         (ap (λ (o : Option Want). held_by behind h (access_of o)) (want_there x word inst.0 Nothing refl inst.1 inst.2.0)))
 
 -- the entries of a unit are legal where it is, and each behind those before it
-pub here_legal : (p : ProcessValue) (h : ℕ) (events : List Event) → Rests p → UnitHere p h events → IsLegal p.moment (entries_by h events)
+pub here_legal : (p : ProcessValue) (h : ℕ) (events : List Event) → Rests p → HasUnit p h events → IsLegal p.moment (entries_by h events)
 here_legal p h events rests here = unit_legal p h events here.new rests here.unit
 
-pub here_made : (p q : ProcessValue) (h : ℕ) (events : List Event) → Rests p → UnitHere p h events → q ≡ with_entries (entries_by h events) p → HasMadeUnit h p q
+pub here_made : (p q : ProcessValue) (h : ℕ) (events : List Event) → Rests p → HasUnit p h events → q ≡ with_entries (entries_by h events) p → HasMadeUnit h p q
 here_made p q h events rests here is = unit_made p q h events here.new rests here.unit is
 
 module _ (p q : ProcessValue) (actor : Actor) (event : Event) (is : q ≡ with_entry actor event p) where

@@ -1,20 +1,22 @@
 -- Whole units of harts over a process.
-use Rattle.std.specs.Prelude.{ℕ, List, ◌++◌, ◌≡◌, Option, Some, None, IsSomeAnd}
+use Rattle.std.specs.Prelude.{ℕ, List, ◌++◌, ◌≡◌, true, false, Option, Some, None, IsSomeAnd}
 use Rattle.rv_inst.specs.declared.causes.TheConstants.{ILLEGAL_INSTRUCTION}
 use Rattle.rv_inst.specs.declared.inst.Inst.{Inst}
+use Rattle.rv_inst.specs.declared.want.Want.{Want}
 use Rattle.rv_inst.specs.declared.want.Want.TheVariants.{Look, Nothing, Trap}
 use Rattle.rv_inst.specs.Arch.{ArchState}
 use Rattle.rv_inst.specs.Decoding.{inst_of}
 use Rattle.rv_inst.specs.Meanings.{meaning_of, want_of}
 use Rattle.wf_flat.specs.declared.event.Event.{Event}
-use Rattle.wf_flat.specs.Accesses.{generation_text}
+use Rattle.wf_flat.specs.Accesses.{Access, access_of, generation_text}
 use Rattle.wf_flat.specs.Memory.{word_at}
-use Rattle.wf_flat.specs.State.{FlatState}
-use Rattle.wf_flat.specs.Steps.{OfRunning}
+use Rattle.wf_flat.specs.State.{FlatState, HartState}
+use Rattle.wf_flat.specs.Steps.{OfRunning, is_lost}
 use Rattle.wf_legal.specs.Legal.{at_rest}
 use Rattle.wf_service.specs.Resting.{IsResting}
 use Rattle.wf_process.specs.Finding.{text_bytes}
 use Rattle.wf_process.specs.Processes.{ProcessValue}
+use Rattle.wf_units.specs.Instructions.{access_cause, is_faulty}
 use Rattle.wf_units.specs.Units.{IsLegalUnit, entries_by}
 use Rattle.wf_stepping.specs.declared.loading.Load.{Load}
 
@@ -30,6 +32,11 @@ pub record HasMadeUnit (h : ℕ) (old new : ProcessValue) : Type 0 where
   pub unit : IsLegalUnit old.moment.deltas old.moment.flat h events new.moment.flat
   pub moment : new.moment ≡ at_rest old.moment.deltas new.moment.flat
   pub entries : new.entries ≡ old.entries ++ entries_by h events
+
+-- these events are a legal unit of a hart of a process, and lead to some state
+pub record HasUnit (p : ProcessValue) (h : ℕ) (events : List Event) : Type 0 where
+  pub new : FlatState
+  pub unit : IsLegalUnit p.moment.deltas p.moment.flat h events new
 
 -- a hart of a process runs, with this pc, where it finds this word in the text of its generation,
 -- or none
@@ -59,3 +66,19 @@ IsTextLoad s generation arch word load next =
     (λ inst. (want_of inst arch ≡ Look load.va load.width)
     × (Some load.value ≡ text_bytes s generation load.va load.width)
     × (next ≡ meaning_of inst arch load.value))
+
+-- An access that an instruction wants cannot be made by a hart, which has this cause and address;
+-- and it is none of a store-conditional that is lost.
+pub record IsFaultOf (s : FlatState) (hart : HartState) (want : Want) (cause va : ℕ)
+    : Type 0 where
+  pub access : Access
+  pub of_want : access_of (Some want) ≡ Some access
+  pub kept : is_lost (Some want) hart.reservation ≡ false
+  pub faulty : is_faulty s hart access ≡ true
+  pub cause_is : cause ≡ access_cause access
+  pub va_is : va ≡ access.va
+
+-- the access of a word's instruction cannot be made by a hart, which has this cause and address
+abbrev pub IsFault : FlatState → ℕ → ℕ → ℕ → HartState → Type 0
+IsFault s word cause va hart =
+    IsSomeAnd (inst_of word) (λ inst. IsFaultOf s hart (want_of inst hart.arch) cause va)

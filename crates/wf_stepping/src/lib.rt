@@ -8,4 +8,4 @@ mod stopping;
 
 pub use loading::{Load, load_text};
 pub use running::run;
-pub use stopping::{idle, lose_fetch, trap};
+pub use stopping::{fault, idle, lose_fetch, trap};
